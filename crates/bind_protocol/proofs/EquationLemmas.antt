@@ -21,9 +21,9 @@ use Rattle.bind_protocol.specs.Learn.{HasLearned, HasRegistered, MeetCase}
 use Rattle.bind_protocol.specs.Equations.{equations_in, IsMessageEquation, IsBound, EquationsAreOwned, KeepsEquations, RowsKeepEquations, EquationsJoin, EquationsGoOn}
 use Rattle.bind_protocol.proofs.RowCountLemmas.{name_cases}
 use Rattle.bind_protocol.proofs.LearnLemmas.{own_is, meet_case, binding_learns, make_learns, ask_learns, late_learns, registers_is}
+use Rattle.bind_protocol.proofs.KnowLemmas.{own_here}
 use Rattle.std.proofs.lemmas.Bool.Decides.{Decides-eqb}
 use Rattle.tree_node.proofs.OrderLemmas.{none as nothing}
-use Rattle.bind_protocol.proofs.NoticeLemmas.{owner_knowledge}
 
 -- ---- what messages tell
 
@@ -142,7 +142,7 @@ register_equations b x k own = go (owner_of b.owners x) refl
         (same_equations b (after_register b x k) [] (binding x t k ∷ []) r.site r.same (λ y s h. tells y s (bindings_tell x t (k ∷ []) y s h)) (bindings_ask x t (k ∷ [])))
       where
         bound : IsBound b x t
-        bound = owner_knowledge b x own ∙ ap owner_knows q
+        bound = own_here b x own ∙ ap owner_knows q
 
         tells : (y : VarName) (s : Term) → (y ≡ x) × (s ≡ t) → IsBound b y s
         tells y s (e, f) = subst (λ (z : VarName). IsBound b z s) (sym e) (subst (λ (u : Term). IsBound b x u) (sym f) bound)
@@ -151,7 +151,7 @@ ask_equations : (b : Records) (x : VarName) (t : Term) → x.site ≡ b.site →
 ask_equations b x t own low = go (owner_of b.owners x) refl
   where
     known : (o : Option Owner) → owner_of b.owners x ≡ o → knowledge b x ≡ owner_knows o
-    known o q = owner_knowledge b x own ∙ ap owner_knows q
+    known o q = own_here b x own ∙ ap owner_knows q
 
     out : Option Owner → List Sent
     out o = map (λ (k : ℕ). binding x t k) (sites_of o)

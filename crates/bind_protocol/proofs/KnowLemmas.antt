@@ -19,7 +19,7 @@ met_with_term (Err a) b x t es own e = tt
 
 -- ---- a variable of the site's own
 
-own_here : (b : Records) (x : VarName) → x.site ≡ b.site → knowledge b x ≡ owner_knows (owner_of b.owners x)
+pub own_here : (b : Records) (x : VarName) → x.site ≡ b.site → knowledge b x ≡ owner_knows (owner_of b.owners x)
 own_here b x own = rw (eq-eqb x.site b.site own) refl
 
 pub own_nothing : (b : Records) (x : VarName) (made : Bool) → x.site ≡ b.site → (IsTrue made ↔ IsTrue (is_some (owner_of b.owners x))) → made ≡ false → knowledge b x ≡ None

@@ -24,7 +24,8 @@ use Rattle.bind_protocol.proofs.ListLemmas.{one, count_append, count_push, count
 use Rattle.bind_protocol.proofs.LookLemmas.{in_here, in_other}
 use Rattle.bind_protocol.proofs.CountLemmas.{bindings_sent}
 use Rattle.bind_protocol.proofs.RowCountLemmas.{by_owners, name_cases, no_registers, no_bindings, told_once}
-use Rattle.bind_protocol.proofs.LearnLemmas.{own_is, meet_case, binding_learns}
+use Rattle.bind_protocol.proofs.LearnLemmas.{meet_case, binding_learns}
+use Rattle.bind_protocol.proofs.KnowLemmas.{own_here}
 use Rattle.std.proofs.lemmas.Bool.Decides.{Decides-eqb}
 use Rattle.tree_node.proofs.NameLemmas.{differ}
 use Rattle.tree_node.proofs.EnvLemmas.{equal_no}
@@ -54,9 +55,6 @@ owners_told b es hand out none l = record {
   heard = λ x other some. absurd (omega (arith, none x, some));
 }
 
-pub owner_knowledge : (b : Records) (x : VarName) → x.site ≡ b.site → knowledge b x ≡ owner_knows (owner_of b.owners x)
-owner_knowledge b x own = rw (own_is b x own) refl
-
 pub no_sites : (o : Option Owner) → owner_knows o ≡ None → sites_of o ≡ []
 no_sites None e = refl
 no_sites (Some (Open ks)) e = cc
@@ -66,7 +64,7 @@ make_told : (b : Records) (x : VarName) → x.site ≡ b.site → knowledge b x 
 make_told b x own new = owners_told b (with_owner b.owners x (Open [])) [] [] (λ y. refl) (λ i y mine. go i y (name_cases y x))
   where
     before : sites_of (owner_of b.owners x) ≡ []
-    before = no_sites (owner_of b.owners x) (sym (owner_knowledge b x own) ∙ new)
+    before = no_sites (owner_of b.owners x) (sym (own_here b x own) ∙ new)
 
     go : (i : ℕ) (y : VarName) → (y ≡ x) ⊎ (y ≢ x) → site_count i (sites_of (owner_of b.owners y)) + 0 ≤ site_count i (sites_of (owner_of (with_owner b.owners x (Open [])) y)) + 0
     go i y (inl e) =
@@ -135,7 +133,7 @@ register_told b x k to own known = go (owner_of b.owners x) refl
         (λ i y mine. listed (Bound t) (binding x t k ∷ []) q (λ j. let f : one (equal_var x x && (j == k)) ≡ one (j == k) = ap (λ (c : Bool). one (c && (j == k))) (same_name_refl x) in omega (arith, told t j x)) i y (name_cases y x))
 
     go : (o : Option Owner) → owner_of b.owners x ≡ o → KeepsTold b (after_register b x k) hand (register_sends b x k)
-    go None q = absurd (unknown (knowledge b x) (owner_knowledge b x own ∙ ap owner_knows q) known)
+    go None q = absurd (unknown (knowledge b x) (own_here b x own ∙ ap owner_knows q) known)
     go (Some o) q = rw q (kept o q)
 
 -- ---- others' variables

@@ -10,12 +10,12 @@ use Rattle.tree_node.specs.declared.node.Term.{Term}
 use Rattle.tree_node.specs.Assoc.{value_of}
 use Rattle.tree_node.specs.Store.{Store, Equation, IsFree, equal_var}
 use Rattle.tree_node.proofs.ClassLemmas.{same_name_decides, Contains-cons_cases, Contains-head, Contains-tail}
+use Rattle.tree_node.proofs.BoolLemmas.{exchange}
 use Rattle.tree_store.specs.Contents.{Contents as Held, with_name}
 use Rattle.tree_store.proofs.NameLemmas.{known_tells}
 use Rattle.site_message.specs.Vars.{vars_of}
 use Rattle.site_model.specs.Bundle.{distinct_vars, vars_of_equations}
 use Rattle.marshal.specs.Marshal.{with_equation, with_equations, AreKnown}
-use Rattle.site_model.proofs.AscendingLemmas.{or_other}
 use Rattle.site_model.proofs.BundleLemmas.{equations_append}
 
 -- ---- names, each once
@@ -34,7 +34,7 @@ same_seen (x ∷ xs) r s h = go (list_any (equal_var x) r) (list_any (equal_var 
 
 pub seen_moved : (p : VarName → Bool) (x : VarName) (s d : List VarName) → list_any p (x ∷ (s ++ d)) ≡ list_any p (s ++ x ∷ d)
 seen_moved p x [] d = refl
-seen_moved p x (z ∷ s) d = or_other (p x) (p z) (list_any p (s ++ d)) ∙ ap (λ (b : Bool). p z || b) (seen_moved p x s d)
+seen_moved p x (z ∷ s) d = exchange (p x) (p z) (list_any p (s ++ d)) ∙ ap (λ (b : Bool). p z || b) (seen_moved p x s d)
 
 pub distinct_append : (xs ys seen : List VarName) → distinct_vars seen (xs ++ ys) ≡ distinct_vars seen xs ++ distinct_vars (seen ++ distinct_vars seen xs) ys
 distinct_append [] ys seen = ap (λ (s : List VarName). distinct_vars s ys) (sym (append-nil seen))

@@ -3,6 +3,7 @@ use Rattle.std.proofs.Common.{◌≡◌, ℕ, zero, suc, ◌+◌, ◌<◌, ◌�
 use Rattle.std.specs.Prelude.{◌↔◌, IsTrue, Contains}
 use Rattle.std.proofs.lemmas.Bool.{cases_lt, leb-true}
 use Rattle.tree_node.proofs.ClassLemmas.{Contains-head}
+use Rattle.tree_node.proofs.OrderLemmas.{none as none_in}
 use Rattle.site_message.specs.declared.turn.Turn.{Turn}
 use Rattle.site_message.specs.Journal.{is_idle, is_quiet}
 use Rattle.site_message.specs.Story.{hand}
@@ -44,9 +45,6 @@ no_numbers (x ∷ xs) e = absurd (cc)
 none_there : {A : Type 0} (xs : List A) → ((x : A) → Contains xs x → ⊥) → xs ≡ []
 none_there [] h = refl
 none_there (x ∷ xs) h = absurd (h x (Contains-head x xs))
-
-none_in : {A : Type 0} (x : A) → Contains [] x → ⊥
-none_in x (i, below, is) = omega arith
 
 same_truth : (s t : Bool) → IsTrue s ↔ IsTrue t → s ≡ t
 same_truth true true h = refl

@@ -30,6 +30,7 @@ use Rattle.oz_grammar.specs.Faults.{or_else, where_so, where_not, number_fault, 
 use Rattle.oz_grammar.specs.Check.{first_fault, check_fields}
 use Rattle.std.proofs.lemmas.Bool.{or_parts}
 use Rattle.tree_node.proofs.FeatureOrder.{feature_trans}
+use Rattle.tree_node.proofs.BoolLemmas.{exchange}
 
 -- ---- the order of features
 
@@ -85,11 +86,6 @@ length-with_field f x ((g, y) ∷ fields) =
       | true ↦ refl
       | false ↦ ap suc (length-with_field f x fields)
     ] in chosen (is_lt (feature_cmp f g))
-
-exchange : (a b c : Bool) → (a || (b || c)) ≡ (b || (a || c))
-exchange true true c = refl
-exchange true false c = refl
-exchange false b c = refl
 
 -- the features of fields and one more are its own and theirs
 pub has_with_field : {A : Type 0} (f : Feature) (x : A) (fields : List (Feature × A)) (g : Feature) → has_feature (with_field f x fields) g ≡ (equal_feature f g || has_feature fields g)

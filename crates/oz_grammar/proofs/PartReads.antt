@@ -106,7 +106,7 @@ round_read p scope d room before next symbols σ e = absurd cc
 pub err_both : {X Y : Type 0} (r : Result X Fault) (f : X → Result Y Fault) (m : X → Option Fault) (k : Y → Option Fault) (e : Fault) → r ≡ Err e → read_on r m ≡ read_on (r >>= f) k
 err_both r f m k e same = rw same refl
 
-abbrev kept : FieldOut → Result (Fields × List Symbol) Fault
+abbrev pub kept : FieldOut → Result (Fields × List Symbol) Fault
 kept m = Ok (m.0, m.2)
 
 pub fields_read : (room : ℕ) (p : Purpose) (scope : Scope) (d : ℕ) (before : Fields) (next : ℕ) (symbols : List Symbol) (σ : List Point) → run symbols (FieldOf p scope d room before next ∷ σ) ≡ read_on (fields_at p scope room before next symbols) (λ m. run m.1 (behind_fields p scope d m.0 ++ σ))

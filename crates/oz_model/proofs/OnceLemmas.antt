@@ -34,10 +34,10 @@ use Rattle.oz_model.specs.Step.{AreOfKinds, cells_after, ports_after, stack_left
 use Rattle.tree_node.proofs.AssocLemmas.{keys, Each-goes_on, Each-keys-goes_on, AreDistinct-with_value, AreDistinct-goes_on}
 use Rattle.oz_model.specs.Run.{IsRun, start}
 use Rattle.oz_model.specs.Laws.{AreOnce, RunsAreOnce}
-use Rattle.oz_model.proofs.KindLemmas.{equal_cell_decides, equal_port_decides, kinds_one, only_thread}
+use Rattle.oz_model.proofs.KindLemmas.{equal_cell_decides, kinds_one, only_thread}
 use Rattle.oz_model.proofs.ExchangeLemmas.{step_makes}
 use Rattle.oz_model.proofs.PortLemmas.{step_opens}
-use Rattle.tree_node.proofs.NameLemmas.{same_thread_decides}
+use Rattle.tree_node.proofs.NameLemmas.{same_thread_decides, same_port_decides}
 
 -- ---- a thread that is born is a fresh name
 
@@ -142,7 +142,7 @@ last_distinct (r ∷ ports) q x h apart = (others ports h.0, last_distinct ports
 ports_distinct : (s : State) (change : PortChange) → ((port : PortName) (x : VarName) → change ≡ effect.Opened port x → IsNew s (name.Port port)) → AreDistinct (keys s.ports) → AreDistinct (keys (ports_after s.ports change))
 ports_distinct s Keeps new h = h
 ports_distinct s (effect.Opened port x) new h = last_distinct s.ports port x h (port_names s.ports port (new port x refl).2)
-ports_distinct s (Sent port value x) new h = AreDistinct-with_value equal_port equal_port_decides s.ports port x h
+ports_distinct s (Sent port value x) new h = AreDistinct-with_value equal_port same_port_decides s.ports port x h
 
 once_step : (p : List Stmt) (s : State) (k : Pick) → IsAllowed p s k → AreOnce s → AreOnce (next p s k)
 once_step p s k a h =

@@ -7,6 +7,7 @@ use Rattle.tree_node.specs.Each.{Each}
 use Rattle.tree_node.specs.declared.names.VarName.{VarName}
 use Rattle.tree_node.specs.declared.names.Name.{Name}
 use Rattle.tree_node.specs.declared.names.Name.TheVariants as name
+use Rattle.tree_node.proofs.FrontLemmas.{each_left}
 use Rattle.pick_list.specs.declared.names.NameRun.{NameRun}
 use Rattle.pick_list.specs.Names.{name_after, row_of, names_in, IsRow, IsRun, IsNameAfter, Follows, IsCutTo}
 use Rattle.pick_list.proofs.ColumnLemmas.{reverse_push}
@@ -137,15 +138,11 @@ pub no_names : (runs : List NameRun) → length runs ≡ 0 → length (names_in 
 no_names [] none = refl
 no_names (r ∷ runs) none = absurd (omega (arith, none))
 
-each_part : {X : Type 0} (P : X → Type 0) (xs ys : List X) → Each P (xs ++ ys) → Each P xs × Each P ys
-each_part P [] ys all = (tt, all)
-each_part P (x ∷ xs) ys all = let rest = each_part P xs ys all.1 in ((all.0, rest.0), rest.1)
-
 -- the run at a place is one
 pub run_at : (runs : List NameRun) (k : ℕ) (d : NameRun) → k < length runs → Each IsRun (reverse runs) → IsRun (get_or runs k d)
 run_at [] k d below all = absurd (omega (arith, below))
-run_at (r ∷ runs) zero d below all = (each_part IsRun (reverse runs) (r ∷ []) (subst (λ (l : List NameRun). Each IsRun l) (reverse-append (r ∷ []) runs) all)).1.0
-run_at (r ∷ runs) (suc k) d below all = run_at runs k d (omega (arith, below)) (each_part IsRun (reverse runs) (r ∷ []) (subst (λ (l : List NameRun). Each IsRun l) (reverse-append (r ∷ []) runs) all)).0
+run_at (r ∷ runs) zero d below all = (each_left IsRun (reverse runs) (r ∷ []) (subst (λ (l : List NameRun). Each IsRun l) (reverse-append (r ∷ []) runs) all)).1.0
+run_at (r ∷ runs) (suc k) d below all = run_at runs k d (omega (arith, below)) (each_left IsRun (reverse runs) (r ∷ []) (subst (λ (l : List NameRun). Each IsRun l) (reverse-append (r ∷ []) runs) all)).0
 
 -- the names of one run more
 pub names_more : (runs : List NameRun) (k : ℕ) (d : NameRun) → k < length runs →

@@ -16,7 +16,7 @@ use Rattle.oz_model.specs.Run.{IsRun, start}
 use Rattle.oz_model.specs.Step.{end_count, effect_of, threads_born, stack_with_content, living_stack, stack_left}
 use Rattle.thread_roster.specs.Threads.{waiting_of}
 use Rattle.site_model.specs.Bundle.{bundle_limit}
-use Rattle.site_model.specs.Site.{Site, initial_site, runnable_threads, waiting_count}
+use Rattle.site_model.specs.Site.{Site, runnable_threads, waiting_count}
 use Rattle.site_model.specs.Run.{SiteRun, IsReachedBy, IsEntry}
 use Rattle.world_model.specs.Schedule.{schedule, sum_to}
 use Rattle.world_model.specs.Simulated.{last_ended, last_waiting}
@@ -182,9 +182,6 @@ sum_fits site n a b bound f low high before last most =
     omega arith
 
 -- ---- a run without turns, and what the laws say of any
-
-pub empty_run : (p : List Stmt) (n : ℕ) → HasRun p n []
-empty_run p n = (initial_site p n, record { wired = tt; sites = tt; runs = λ i. refl })
 
 module _ (p : List Stmt) (n : ℕ) (j : List Turn) (is : IsProgram p) (low : 1 ≤ n) (high : n ≤ 64) (run : HasRun p n j) where
   pub machine_run : HasMachineRun p n j

@@ -20,6 +20,7 @@ use Rattle.tree_node.specs.Shown.{Show, Text, Needs, shown}
 use Rattle.tree_node.specs.State.{Stack, State}
 use Rattle.tree_node.specs.Store.{Store, Equation, node_of}
 use Rattle.tree_node.proofs.EachLemmas.{each_append}
+use Rattle.tree_node.proofs.FrontLemmas.{each_left}
 use Rattle.kernel_syntax.specs.declared.stmt.Op.{Op}
 use Rattle.kernel_syntax.specs.declared.stmt.Selector.{Selector}
 use Rattle.kernel_syntax.specs.declared.stmt.Selector.TheVariants as selector
@@ -183,13 +184,9 @@ run_lines p (k ∷ ks) s t (m, step, rest) h =
     run_lines p ks m t rest (subst (λ (u : State). Each IsLine u.lines) (sym step.1)
     (each_append IsLine s.lines (option_to_list (effect_of p s k).line) h (stack_lines p s.equations k.fresh k.bind (stack_of s k.thread))))
 
-each_parts : {X : Type 0} (P : X → Type 0) (xs ys : List X) → Each P (xs ++ ys) → Each P xs × Each P ys
-each_parts P [] ys h = (tt, h)
-each_parts P (x ∷ xs) ys h = let r = each_parts P xs ys h.1 in ((h.0, r.0), r.1)
-
 entries_lines : (j : List Turn) → Each IsLine (lines_in j) → Each (λ (e : Turn). Each IsLine e.lines) j
 entries_lines [] h = tt
-entries_lines (e ∷ j) h = let r = each_parts IsLine (lines_in j) e.lines h in (r.1, entries_lines j r.0)
+entries_lines (e ∷ j) h = let r = each_left IsLine (lines_in j) e.lines h in (r.1, entries_lines j r.0)
 
 pub printed_law : PrintedLinesAreLines
 printed_law p n j w is low high run =

@@ -1,13 +1,12 @@
 -- The entries of a run have a text.
-use Rattle.std.proofs.Common.{rules, arith, ◌≡◌, sym, refl, subst, ℕ, zero, suc, ◌<◌, ◌≤◌, List, [], ◌∷◌, length, map, reverse, Bool, true, false}
-use Rattle.std.specs.Prelude.{Option, Some, None, ◌&&◌, not, nat_lt, nat_le, slice_get}
-use Rattle.std.proofs.lemmas.List.{reverse-append}
+use Rattle.std.proofs.Common.{rules, arith, ◌≡◌, refl, ℕ, ◌<◌, ◌≤◌, List, [], ◌∷◌, length, map, reverse, Bool, true, false}
+use Rattle.std.specs.Prelude.{Option, Some, None, ◌&&◌, not, nat_lt, nat_le}
+use Rattle.std.proofs.lemmas.Option.{slice_get_within}
 use Rattle.tree_node.specs.declared.limits.TheConstants.{MOST_MESSAGES}
 use Rattle.tree_node.specs.declared.names.ThreadName.{ThreadName}
 use Rattle.tree_node.specs.Each.{Each}
-use Rattle.tree_node.proofs.EachLemmas.{each_append}
+use Rattle.tree_node.proofs.EachLemmas.{each_reverse}
 use Rattle.kernel_syntax.specs.declared.stmt.Stmt.{Stmt}
-use Rattle.site_message.specs.declared.message.Sent.{Sent}
 use Rattle.site_message.specs.declared.reason.Reason.{Reason}
 use Rattle.site_message.specs.declared.reason.Reason.TheVariants.{Messages}
 use Rattle.site_message.specs.declared.turn.Turn.{Turn}
@@ -33,10 +32,6 @@ each_mapped : {X Y : Type 0} (P : Y → Type 0) (f : X → Y) (xs : List X) → 
 each_mapped P f [] h = tt
 each_mapped P f (x ∷ xs) h = (h.0, each_mapped P f xs h.1)
 
-each_reversed : {X : Type 0} (P : X → Type 0) (xs : List X) → Each P xs → Each P (reverse xs)
-each_reversed P [] h = tt
-each_reversed {X} P (x ∷ xs) h = subst (λ (ys : List X). Each P ys) (sym (reverse-append (x ∷ []) xs)) (each_append P (reverse xs) (x ∷ []) (each_reversed P xs h.1) (h.0, tt))
-
 -- ---- one entry
 
 -- where a run goes on no more messages were sent than its limit
@@ -51,11 +46,6 @@ few_sent l (t ∷ j) e = by (nat_lt l.messages (length (sent_of (t ∷ j)))) ref
         below : (a b : ℕ) → nat_lt a b ≡ false → b ≤ a
         below a b e = search rules
 
-get_inside : (xs : List Sent) (k : ℕ) (m : Sent) → slice_get xs k ≡ Some m → k < length xs
-get_inside [] k m e = cc
-get_inside (x ∷ xs) zero m e = omega arith
-get_inside (x ∷ xs) (suc k) m e = let h = get_inside xs k m e in omega (arith, h)
-
 numbered : (l : Limits) (j : List Turn) (t : Turn) → l.messages ≤ MOST_MESSAGES → end_of l j ≡ None → DeliversOnce j t → IsNumber t.delivered
 numbered l j t most goes_on once = by t.delivered refl
   where
@@ -63,7 +53,7 @@ numbered l j t most goes_on once = by t.delivered refl
     by None q = tt
     by (Some k) q =
         let m = once k q in
-        let low : k < length (sent_of j) = get_inside (sent_of j) k m.0 m.1.0 in
+        let low : k < length (sent_of j) = slice_get_within (sent_of j) k m.0 m.1.0 in
         let few = few_sent l j goes_on in
         (omega arith, omega (arith, low, few, most))
 
@@ -90,5 +80,5 @@ module _ (p : List Stmt) (l : Limits) (most : l.messages ≤ MOST_MESSAGES) wher
 
 pub save_law : RunsMayBeSaved
 save_law p l j w is low high most run early numbers =
-    each_mapped (IsEntryOf l.sites) entry_of (reverse j) (each_reversed (λ (e : Turn). IsEntryOf l.sites (entry_of e)) j
+    each_mapped (IsEntryOf l.sites) entry_of (reverse j) (each_reverse (λ (e : Turn). IsEntryOf l.sites (entry_of e)) j
     (entries_fit p l most j w run early (units_are_always_named p l.sites bundle_limit j w run) (printed_law p l.sites j w is low high run) numbers))

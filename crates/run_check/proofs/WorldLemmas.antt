@@ -16,7 +16,7 @@ use Rattle.site_model.specs.Run.{WorldRun, delivered_message}
 use Rattle.site_core.specs.Replay.{TurnComesTo, IsStuckTurn}
 use Rattle.world_core.specs.declared.travel.Travel.{Travel}
 use Rattle.world_core.specs.Travels.{IsAt, IsPlaceOf, IsNumberAt, IsNotThere}
-use Rattle.world_core.specs.Laws.{HasRun, AreMessagesFew}
+use Rattle.world_core.specs.Laws.{AreMessagesFew}
 use Rattle.world_core.specs.World.{WorldState, states_of, IsWorldTurn}
 use Rattle.world_core.specs.Replay.{IsReplayed, IsWorldStuck, PrintsOthers as WorldPrintsOthers}
 use Rattle.world_core.specs.declared.refusal.ReplayRefusal.{ReplayRefusal}
@@ -31,9 +31,6 @@ use Rattle.run_check.specs.World.{HasMade, IsNext, IsLookedUp, Stops, TravelsNow
 use Rattle.run_check.proofs.AgainLemmas.{init_last}
 
 -- ---- how a run begins and ends
-
-pub empty_run : (p : List Stmt) (n : ℕ) → HasRun p n []
-empty_run p n = ((λ i. initial_site p n i), run_starts p n bundle_limit (λ i. initial_site p n i) (λ i. refl))
 
 pub empty_few : (p : List Stmt) (n : ℕ) → IsProgram p → 1 ≤ n → n ≤ 64 → AreMessagesFew p n []
 empty_few p n is low high = messages_few p n [] (λ i. initial_site p n i) is low high (run_starts p n bundle_limit (λ i. initial_site p n i) (λ i. refl))

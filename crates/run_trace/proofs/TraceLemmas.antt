@@ -1,6 +1,6 @@
 -- What is kept of a run goes on to be that of its picks.
 use Rattle.std.proofs.Common.{◌≡◌, ◌≢◌, ◌∙◌, sym, ap, refl, subst, ℕ, length, List, [], ◌∷◌, ◌++◌, ◌⊎◌, inl, inr, Bool, true, false, cond, Some, None}
-use Rattle.std.specs.Prelude.{Option, IsSome, OnOk, Result, Ok, Err, is_err, option_to_list, unwrap_or}
+use Rattle.std.specs.Prelude.{Option, IsSome, option_to_list, unwrap_or}
 use Rattle.tree_node.specs.declared.names.ThreadName.{ThreadName}
 use Rattle.tree_node.specs.declared.names.VarName.{VarName}
 use Rattle.tree_node.specs.declared.item.Item.TheVariants.{Run as Runs, Goals, Mark, Report}
@@ -154,11 +154,6 @@ module _ (c d : Centre) (k : Pick) (es fs : List (ThreadName × Begun)) (rs qs :
     births = puts ∙ (ap (λ (v : Option Birth). bs ++ option_to_list v) birth_is
         ∙ (ap (λ (l : List Birth). l ++ option_to_list (birth_in c.program (begun_with c.state k.thread (begun c.program c.picks)) c.state k)) traced.births ∙ sym births_behind));
   }
-
--- where there is no error, it holds
-pub on_ok : {T E : Type 0} (r : Result T E) (P : Type 0) → is_err r ≡ false → OnOk r P → P
-on_ok (Ok v) P ok h = h
-on_ok (Err e) P ok h = absurd (cc)
 
 -- the same of what the pick told before the step, where the program is that of the trace
 pub step_noted : (c d : Centre) (p : List Stmt) (k : Pick) (es fs : List (ThreadName × Begun)) (rs qs : List Raise) (bs cs : List Birth) (before : ℕ) (thread : ThreadName) (raised : Option VarName) (made : Option ThreadName) →

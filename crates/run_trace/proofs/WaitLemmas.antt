@@ -1,7 +1,6 @@
 -- At rest each living thread waits, and has begun what it goes on with.
 use Rattle.std.proofs.Common.{◌≡◌, ◌≢◌, ◌∙◌, sym, ap, refl, subst, List, [], ◌∷◌, ◌++◌, map, Bool, true, false, cond, Some, None}
-use Rattle.std.specs.Prelude.{Option, IsSome, reverse, unwrap_or}
-use Rattle.std.proofs.lemmas.List.{reverse-append}
+use Rattle.std.specs.Prelude.{Option, IsSome, unwrap_or}
 use Rattle.tree_node.specs.declared.names.ThreadName.{ThreadName}
 use Rattle.tree_node.specs.declared.names.VarName.{VarName}
 use Rattle.tree_node.specs.declared.pick.Pick.{Pick}
@@ -9,7 +8,7 @@ use Rattle.tree_node.specs.Assoc.{value_of}
 use Rattle.tree_node.specs.Each.{Each}
 use Rattle.tree_node.specs.State.{Stack, State, equal_thread}
 use Rattle.tree_node.specs.Store.{Store}
-use Rattle.tree_node.proofs.EachLemmas.{each_append}
+use Rattle.tree_node.proofs.EachLemmas.{each_reverse}
 use Rattle.tree_node.proofs.EnvLemmas.{each_more}
 use Rattle.tree_node.proofs.NameLemmas.{same_thread_decides}
 use Rattle.kernel_syntax.specs.declared.stmt.Stmt.{Stmt}
@@ -26,10 +25,6 @@ use Rattle.run_trace.specs.Waits.{IsWaitingAt}
 use Rattle.run_trace.proofs.BegunLemmas.{last_thread}
 
 -- ---- the names of the living threads
-
-each_reverse : {X : Type 0} (P : X → Type 0) (xs : List X) → Each P xs → Each P (reverse xs)
-each_reverse P [] h = tt
-each_reverse {X} P (x ∷ xs) h = subst (λ (l : List X). Each P l) (sym (reverse-append (x ∷ []) xs)) (each_append P (reverse xs) (x ∷ []) (each_reverse P xs h.1) (h.0, tt))
 
 -- the thread lives
 abbrev pub Lives : List (ThreadName × Stack) → ThreadName → Type 0

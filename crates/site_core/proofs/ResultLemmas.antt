@@ -2,11 +2,6 @@
 use Rattle.std.proofs.Common.{◌≡◌, true, false, Ok, Err}
 use Rattle.std.specs.Prelude.{Result, is_err, IfOk, OnOk, OnErr}
 
--- what holds of one that is no error
-pub of_made : {T E : Type 0} (r : Result T E) (P : Type 0) → is_err r ≡ false → OnOk r P → P
-of_made (Ok x) P is h = h
-of_made (Err e) P is h = cc
-
 -- of an error, nothing is told of a value
 pub no_value : {T E : Type 0} (r : Result T E) (P : T → Type 0) → is_err r ≡ true → IfOk r P
 no_value (Ok x) P is = cc

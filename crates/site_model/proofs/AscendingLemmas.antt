@@ -8,6 +8,7 @@ use Rattle.tree_node.specs.Assoc.{value_of}
 use Rattle.tree_node.specs.Order.{IsBelow}
 use Rattle.tree_node.specs.Store.{Store, Equation, equal_var}
 use Rattle.tree_node.proofs.ClassLemmas.{same_name_decides, same_name_refl}
+use Rattle.tree_node.proofs.BoolLemmas.{exchange}
 use Rattle.site_message.specs.Wire.{NamesAscend}
 use Rattle.site_model.specs.Bundle.{distinct_vars, known_equations, reachable_vars, reachable_equations, is_below, insert_ascending, ascending}
 use Rattle.site_model.specs.Laws.{left_names, BundlesAreOrdered}
@@ -59,18 +60,12 @@ ascending_more (d ∷ es) e new = go (equal_var e.0 d.0) refl new (λ k. ascendi
     go false q k ih = ap (λ (l : List Equation). insert_ascending d l) (ih k) ∙ sym (insert_both e d q (ascending es))
 
 -- which names there are does not hang on the order
-pub or_other : (a b c : Bool) → (a || (b || c)) ≡ (b || (a || c))
-or_other true true c = refl
-or_other true false c = refl
-or_other false true c = refl
-or_other false false c = refl
-
 insert_names : (p : VarName → Bool) (e : Equation) (ds : List Equation) → list_any p (left_names (insert_ascending e ds)) ≡ (p e.0 || list_any p (left_names ds))
 insert_names p e [] = refl
 insert_names p e (d ∷ ds) = go (is_below d.0 e.0) (insert_names p e ds)
   where
     go : (b : Bool) → list_any p (left_names (insert_ascending e ds)) ≡ (p e.0 || list_any p (left_names ds)) → list_any p (left_names (cond b (d ∷ insert_ascending e ds) (e ∷ d ∷ ds))) ≡ (p e.0 || (p d.0 || list_any p (left_names ds)))
-    go true ih = ap (λ (o : Bool). p d.0 || o) ih ∙ or_other (p d.0) (p e.0) (list_any p (left_names ds))
+    go true ih = ap (λ (o : Bool). p d.0 || o) ih ∙ exchange (p d.0) (p e.0) (list_any p (left_names ds))
     go false ih = refl
 
 pub ascending_names : (p : VarName → Bool) (es : List Equation) → list_any p (left_names (ascending es)) ≡ list_any p (left_names es)

@@ -25,19 +25,13 @@ use Rattle.oz_model.specs.Outcome.{outcome_of, print_outcome}
 use Rattle.oz_model.specs.Need.{Waits, Takes, outcome_need, pair_need, goal_need, stack_need, variable_kinds}
 use Rattle.oz_model.specs.Need as need
 use Rattle.oz_model.specs.Effect.{Keeps, Effect, Stays, stack_effect, outcome_effect, goal_effect, pair_effect, exception_effect, vars_among}
-use Rattle.oz_model.specs.Step.{IsOfKind, AreOfKinds}
+use Rattle.oz_model.specs.Step.{AreOfKinds}
+use Rattle.oz_model.proofs.KindLemmas.{only_var}
 
 -- nothing, or the two equations of an exception on the two fresh variables
 abbrev pub AddsFresh : List Name → List Equation → Type 0
 AddsFresh fresh adds =
     (adds ≡ []) ⊎ ((a : VarName) × (x : VarName) × (n : Node) × (m : Node) × (fresh ≡ name.Var a ∷ name.Var x ∷ []) × (adds ≡ (x, term.Node n) ∷ (a, term.Node m) ∷ []))
-
-only_var : (x : Name) → IsOfKind x kind.Var → (v : VarName) × (x ≡ name.Var v)
-only_var (name.Var v) e = (v, refl)
-only_var (name.Cell c) e = absurd e
-only_var (name.Proc c) e = absurd e
-only_var (name.Port c) e = absurd e
-only_var (name.Thread c) e = absurd e
 
 pair_is : (a x : Name) (v u : VarName) → a ≡ name.Var v → x ≡ name.Var u → a ∷ x ∷ [] ≡ name.Var v ∷ name.Var u ∷ []
 pair_is a x v u p q = rw (p, q) refl

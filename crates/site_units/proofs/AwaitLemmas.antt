@@ -1,6 +1,5 @@
 -- What threads wait for is known, and stays so.
 use Rattle.std.proofs.Common.{◌≡◌, inl, inr, refl, List, [], ◌∷◌, Bool, true, false, cond}
-use Rattle.std.specs.Prelude.{Contains}
 use Rattle.tree_node.specs.declared.names.VarName.{VarName}
 use Rattle.tree_node.specs.declared.names.Name.{Name}
 use Rattle.tree_node.specs.declared.names.Name.TheVariants as name
@@ -10,8 +9,9 @@ use Rattle.tree_node.specs.Each.{Each}
 use Rattle.tree_node.specs.Names.{EachOfEquation, EachOfStack}
 use Rattle.tree_node.specs.State.{Stack, equal_thread}
 use Rattle.tree_node.specs.Store.{IsClassName, Store, root_of}
-use Rattle.tree_node.proofs.ClassLemmas.{Contains-head, Contains-tail, to_root}
+use Rattle.tree_node.proofs.ClassLemmas.{to_root}
 use Rattle.tree_node.proofs.SoundLemmas.{class_names}
+use Rattle.tree_node.proofs.EachLemmas.{each_in}
 use Rattle.kernel_syntax.specs.declared.stmt.Stmt.{Stmt}
 use Rattle.oz_model.specs.Need.{Waits, WaitsAny, stack_need}
 use Rattle.oz_model.proofs.EffectNames.{stack_need_names, stack_several_has}
@@ -90,10 +90,6 @@ known_awaited known (name.Proc y) h = tt
 known_awaited known (name.Thread y) h = tt
 known_awaited known (name.Port y) h = tt
 
-each_contained : (P : VarName → Type 0) (xs : List VarName) → ((x : VarName) → Contains xs x → P x) → Each P xs
-each_contained P [] h = tt
-each_contained P (x ∷ xs) h = (h x (Contains-head x xs), each_contained P xs (λ y k. h y (Contains-tail x y xs k)))
-
 equation_names : (known : List VarName) (s : Store) → Each (EachOfEquation (IsKnown known)) s → Each (EachOfEquation (IsAwaitedName known)) s
 equation_names known s equations = Each-weaker _ _ (EachOfEquation-weaker (IsKnown known) (IsAwaitedName known) (known_awaited known)) s equations
 
@@ -113,5 +109,5 @@ module _ (p : List Stmt) (known : List VarName) (s : Store) (stack : Stack) (equ
   -- for one of several
   pub several_known : (q : Pair) (xs : List VarName) → stack_need p s stack ≡ WaitsAny q → compared s q ≡ Open xs → Each (λ (y : VarName). IsAwaited known y) xs
   several_known q xs need open_on =
-      each_contained (λ (y : VarName). IsAwaited known y) xs
+      each_in (λ (y : VarName). IsAwaited known y) xs
       (λ y k. open_has (IsAwaitedName known) s (equation_names known s equations) q xs y (stack_several_has (IsAwaitedName known) p s stack q (inl (inl refl)) (equation_names known s equations) stack_names need) open_on k)

@@ -32,7 +32,7 @@ use Rattle.thread_roster.specs.declared.mode.Awaited.{Awaited}
 use Rattle.thread_roster.specs.declared.mode.Awaited.TheVariants.{Cell}
 use Rattle.thread_roster.specs.declared.mode.Mode.{Mode}
 use Rattle.thread_roster.specs.declared.mode.Mode.TheVariants as mode
-use Rattle.thread_roster.specs.Threads.{Threads as Roster, Entry, set_value}
+use Rattle.thread_roster.specs.Threads.{Threads as Roster, Entry}
 use Rattle.thread_roster.proofs.ThreadLemmas.{each_found}
 use Rattle.thread_roster.proofs.NameLemmas.{is_same, is_other, name_cases}
 use Rattle.token_chain.specs.Holding.{here_with}
@@ -50,13 +50,14 @@ use Rattle.site_units.specs.Core.{site_of, stack_in, counters_of}
 use Rattle.site_cells.specs.Homes.{home_in}
 use Rattle.site_units.specs.Invariant.{ThreadFits, IsAsking, IsQueued, IsEarly, CellFits, CellsFit, own_threads, IsConsistent, AwaitKnown}
 use Rattle.site_units.specs.Units.{IsStepping, IsFinished, IsUnitMade, without_ended}
-use Rattle.site_units.proofs.ThreadLemmas.{Living, mode_in, runs_other, other_set, other_without}
+use Rattle.site_units.proofs.ThreadLemmas.{Living, mode_in, runs_other}
 use Rattle.site_units.proofs.FreshLemmas.{makes_site}
 use Rattle.oz_model.proofs.BirthLemmas.{BornBy, stack_born}
 use Rattle.site_units.proofs.SiteLemmas.{nil_right}
 use Rattle.site_units.proofs.NextLemmas.{next_consistent}
 use Rattle.site_units.proofs.CellLemmas.{replaced}
 use Rattle.site_units.proofs.StepLemmas.{Taken, row, is_unit, finished_site, finished_next}
+use Rattle.site_units.proofs.ChainLemmas.{others_there}
 use Rattle.std.proofs.lemmas.Bool.{ne_eqb, eq-eqb}
 
 -- ---- cells
@@ -144,10 +145,6 @@ born_name (fresh.Given names) h = absurd h
 lives_apart : (ts : Living) (n m : ThreadName) (r : Running) → value_of equal_thread ts n ≡ Some (r, mode.Runs) → value_of equal_thread ts m ≡ None → n ≢ m
 lives_apart ts n m r runs none same =
     let both : ◌≡◌ {A = Option (Running × Mode)} (Some (r, mode.Runs)) None = sym runs ∙ (ap (λ (x : ThreadName). value_of equal_thread ts x) same ∙ none) in cc
-
-settled_other : (ts : Living) (n m : ThreadName) (q : Running) (st : Stack) → n ≢ m → value_of equal_thread (without_ended (set_value ts n q) n st) m ≡ value_of equal_thread ts m
-settled_other ts n m q [] apart = other_without (set_value ts n q) n m apart ∙ other_set ts n m q apart
-settled_other ts n m q (i ∷ is) apart = other_set ts n m q apart
 
 -- a thread whose name was not made does not live
 pub unmade_new : (f : Fresh) (ts : Living) (n : ThreadName) → Each (λ (t : Entry Running). IsMade f (name.Thread t.0)) ts → (IsMade f (name.Thread n) → ⊥) → value_of equal_thread ts n ≡ None
@@ -254,7 +251,7 @@ module _ (p : List Stmt) (c0 c c1 : Core) (o0 o1 : Output) (th : ThreadName) (r 
   pub born_new : value_of equal_thread c1.threads.living n ≡ None
   born_new =
       ap (λ (l : Living). value_of equal_thread l n) (f.living ∙ ap (λ (l : Living). without_ended l th q.stack) h.living)
-      ∙ (settled_other c0.threads.living th n q q.stack (lives_apart c0.threads.living th n r h.running not_here) ∙ not_here)
+      ∙ (others_there c0.threads.living th n q q.stack (lives_apart c0.threads.living th n r h.running not_here) ∙ not_here)
 
   -- the site before the birth, and what was done so far
   abbrev begun : Site

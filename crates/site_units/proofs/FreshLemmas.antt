@@ -24,6 +24,7 @@ use Rattle.site_model.specs.Unit as unit
 use Rattle.site_variables.specs.Variables.{IsUnion}
 use Rattle.site_units.specs.Core.{counters_of}
 use Rattle.tree_node.proofs.OrderLemmas.{Each-member}
+use Rattle.tree_node.proofs.EachLemmas.{each_in}
 pub use Rattle.site_model.proofs.FrameLemmas.{makes_site}
 
 -- ---- the names that come next
@@ -135,17 +136,13 @@ unknown_here b x h = go (knowledge b x) refl
     go None e = e
     go (Some t) e = absurd (h (rw e refl))
 
-pub each_of : (P : VarName → Type 0) (xs : List VarName) → ((x : VarName) → Contains xs x → P x) → Each P xs
-each_of P [] h = tt
-each_of P (x ∷ xs) h = (h x (Contains-head x xs), each_of P xs (λ y m. h y (Contains-tail x y xs m)))
-
 pub union_after : (known xs : List VarName) → IsUnion known xs (known_after known xs)
 union_after known xs x = (parts, whole)
   where
     parts : Contains (known_after known xs) x → Contains known x ⊎ Contains xs x
     parts h =
         Each-member (λ (y : VarName). Contains known y ⊎ Contains xs y) (known_after known xs) x
-        (each_known (λ (y : VarName). Contains known y ⊎ Contains xs y) xs known (each_of _ known (λ y m. inl m)) (each_of _ xs (λ y m. inr m))) h
+        (each_known (λ (y : VarName). Contains known y ⊎ Contains xs y) xs known (each_in _ known (λ y m. inl m)) (each_in _ xs (λ y m. inr m))) h
 
     whole : Contains known x ⊎ Contains xs x → Contains (known_after known xs) x
     whole (inl h) = kept_after known xs x h

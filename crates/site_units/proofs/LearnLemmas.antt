@@ -44,11 +44,11 @@ use Rattle.site_units.specs.Turns.{IsRowMade}
 use Rattle.site_units.proofs.AwaitLemmas.{await_grows, await_where}
 use Rattle.site_units.proofs.ThreadLemmas.{Living, WaitsStay, waits_woken, waited_where}
 use Rattle.site_units.proofs.WakeLemmas.{Bind, encode, woken_each, woken_living, recovered_all}
-use Rattle.site_units.proofs.FreshLemmas.{each_of}
 use Rattle.site_units.proofs.NextLemmas.{next_consistent, thread_grows, asks_before, exchanges_more, sends_more}
 use Rattle.site_units.proofs.SiteLemmas.{nil_right}
 use Rattle.site_units.proofs.RowLemmas.{row_reached}
 use Rattle.tree_node.proofs.OrderLemmas.{Each-member}
+use Rattle.tree_node.proofs.EachLemmas.{each_in}
 use Rattle.std.proofs.lemmas.Bool.{ne_eqb, eq-eqb}
 
 -- ---- some go on by one bind after another
@@ -119,7 +119,7 @@ learned_consistent p c v1 ts1 h l = next_consistent p c (record c { variables = 
   own = l.own;
   site = refl;
   below = h.below;
-  known_made = each_of (λ (x : VarName). IsMade c.fresh (name.Var x)) v1.store.known (λ x m. made_if_own c.fresh c.variables.binder.site x h.site (λ same. Each-member (λ (y : VarName). IsMade c.fresh (name.Var y)) c.variables.store.known x h.known_made (l.own_names x same m)));
+  known_made = each_in (λ (x : VarName). IsMade c.fresh (name.Var x)) v1.store.known (λ x m. made_if_own c.fresh c.variables.binder.site x h.site (λ same. Each-member (λ (y : VarName). IsMade c.fresh (name.Var y)) c.variables.store.known x h.known_made (l.own_names x same m)));
   made_known = λ x m. l.grows x (h.made_known x m);
   threads_made = subst (Each (λ (t : Entry Running). IsMade c.fresh (name.Thread t.0))) (sym l.woken) (each_each (λ (t : Entry Running). IsMade c.fresh (name.Thread t.0)) (λ n v m k g. g) l.bound c.threads.living h.threads_made);
   stays = λ x m. m;

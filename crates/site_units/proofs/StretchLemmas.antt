@@ -31,7 +31,7 @@ use Rattle.site_units.proofs.OneUnitLemmas.{unit_is_one}
 use Rattle.tree_node.specs.State.{equal_thread}
 use Rattle.tree_node.proofs.NameLemmas.{same_thread_decides}
 use Rattle.tree_node.proofs.ClassLemmas.{Contains-cons_cases, Contains-head, Contains-tail}
-use Rattle.thread_roster.proofs.NameLemmas.{is_same}
+use Rattle.thread_roster.proofs.NameLemmas.{is_same, name_cases}
 
 -- ---- rows of names
 
@@ -46,13 +46,6 @@ not_in (y ∷ ys) x h c = go (Contains-cons_cases y x ys c) (not_in ys x h.1)
 all_apart : (xs : List ThreadName) (x : ThreadName) → (Contains xs x → ⊥) → Each (λ (y : ThreadName). x ≡ y → ⊥) xs
 all_apart [] x h = tt
 all_apart (y ∷ ys) x h = (λ e. h (subst (λ (z : ThreadName). Contains (y ∷ ys) z) (sym e) (Contains-head y ys)), all_apart ys x (λ c. h (Contains-tail y x ys c)))
-
-apart_or_same : (m n : ThreadName) → (m ≡ n) ⊎ (m ≢ n)
-apart_or_same m n = go (equal_thread m n) refl
-  where
-    go : (b : Bool) → equal_thread m n ≡ b → (m ≡ n) ⊎ (m ≢ n)
-    go true e = inl ((same_thread_decides m n).0 e)
-    go false e = inr (λ is. (let yes : equal_thread m n ≡ true = is_same m n is in let both : true ≡ false = sym yes ∙ e in cc))
 
 name_gone : (n : ThreadName) (xs : List ThreadName) → (Contains xs n → ⊥) → without_name n xs ≡ xs
 name_gone n [] h = refl
@@ -91,14 +84,14 @@ order_like : (th : ThreadName) (s t : Site) (rest : List ThreadName) → OthersS
 order_like th s t rest stay runs (all, once) = (λ m. (to m, back m), once)
   where
     to : (m : ThreadName) → Contains (th ∷ rest) m → IsRunnable t.threads m
-    to m c = go (apart_or_same m th)
+    to m c = go (name_cases m th)
       where
         go : (m ≡ th) ⊎ (m ≢ th) → IsRunnable t.threads m
         go (inl e) = subst (λ (k : ThreadName). IsRunnable t.threads k) (sym e) runs
         go (inr apart) = (stay m apart).1 ((all m).0 c)
 
     back : (m : ThreadName) → IsRunnable t.threads m → Contains (th ∷ rest) m
-    back m k = go (apart_or_same m th)
+    back m k = go (name_cases m th)
       where
         go : (m ≡ th) ⊎ (m ≢ th) → Contains (th ∷ rest) m
         go (inl e) = subst (λ (j : ThreadName). Contains (th ∷ rest) j) (sym e) (Contains-head th rest)
@@ -117,10 +110,10 @@ order_before th s t new stay runs gone (all, once) = (λ m. (to m, back m), (all
 
         go : (th ≡ m) ⊎ Contains new m → IsRunnable s.threads m
         go (inl e) = subst (λ (k : ThreadName). IsRunnable s.threads k) e runs
-        go (inr there) = other there (apart_or_same m th)
+        go (inr there) = other there (name_cases m th)
 
     back : (m : ThreadName) → IsRunnable s.threads m → Contains (th ∷ new) m
-    back m k = go (apart_or_same m th)
+    back m k = go (name_cases m th)
       where
         go : (m ≡ th) ⊎ (m ≢ th) → Contains (th ∷ new) m
         go (inl e) = subst (λ (j : ThreadName). Contains (th ∷ new) j) (sym e) (Contains-head th new)

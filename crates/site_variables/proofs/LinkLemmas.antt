@@ -7,6 +7,7 @@ use Rattle.tree_node.specs.declared.names.VarName.{VarName}
 use Rattle.tree_node.specs.declared.node.Term.{Term}
 use Rattle.tree_node.specs.Store.{Store, Equation, IsFree, equal_var}
 use Rattle.tree_node.proofs.ClassLemmas.{Contains-cons_cases, Contains-head, Contains-tail}
+use Rattle.tree_node.proofs.OrderLemmas.{none as nowhere}
 use Rattle.tree_store.specs.Contents.{with_name}
 use Rattle.tree_store.proofs.NameLemmas.{known_tells}
 use Rattle.proxy_table.specs.Proxies.{entry_of}
@@ -46,9 +47,6 @@ pub grown_name : (names : List VarName) (x : VarName) → IsGrown names (with_na
 grown_name names x y k = (with_name_is names x y).1 (inl k)
 
 -- ---- a site without variables
-
-nowhere : {A : Type 0} (x : A) → Contains [] x → ⊥
-nowhere x (i, below, is) = omega arith
 
 unknown : (site : ℕ) (x : VarName) → knowledge (record { site = site; owners = []; proxies = [] }) x ≡ None
 unknown site x = go (is_own (record { site = site; owners = []; proxies = [] }) x)

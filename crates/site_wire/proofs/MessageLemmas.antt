@@ -28,16 +28,15 @@ use Rattle.oz_model.proofs.KindLemmas.{equal_cell_decides, cell_cases}
 use Rattle.variable_owner.specs.declared.owners.Owner.{Owner}
 use Rattle.variable_owner.specs.declared.owners.Owner.TheVariants.{Open, Bound}
 use Rattle.variable_owner.specs.Owners.{owner_of}
-use Rattle.bind_protocol.specs.Records.{is_own, knowledge}
+use Rattle.bind_protocol.specs.Records.{knowledge}
 use Rattle.bind_protocol.specs.Rows.{register_sends}
 use Rattle.thread_roster.specs.declared.mode.Awaited.TheVariants.{Cell, Port}
 use Rattle.thread_roster.specs.declared.mode.Mode.TheVariants.{Runs, WaitsFor}
-use Rattle.thread_roster.specs.Binds.{goes_on}
 use Rattle.token_chain.specs.declared.token.Token.TheVariants.{Here}
 use Rattle.site_model.specs.Site.{Site, CellRecord, Counters, thread_state, cell_record}
 use Rattle.site_model.specs.Bundle.{with_own_bundles, message_bundle, vars_of_equations, body_vars, message_vars}
 use Rattle.site_model.specs.Transition.{Transition}
-use Rattle.site_model.specs.Variables.{with_known_equation, with_known_equations, own_bind, opening}
+use Rattle.site_model.specs.Variables.{with_known_equations, own_bind, opening}
 use Rattle.site_model.specs.Cells.{content_after_change, exchange_stack, after_exchange, content_after_exchange, serving, leave_row, with_last_asker}
 use Rattle.site_model.specs.Messages.{birth, with_thread, register_row, bind_request_row, message_row}
 use Rattle.site_model.specs.Fit.{CodesFit, IsFit}
@@ -48,12 +47,13 @@ use Rattle.site_wire.proofs.EffectLemmas.{GoesOn, calm_fits}
 use Rattle.site_wire.proofs.ThreadLemmas.{besides, besides_fit, served_fit, line_stays, queues_same}
 use Rattle.site_wire.proofs.CellLemmas.{leave_fits, get_fits, contents_put, line_mobile}
 use Rattle.site_wire.proofs.SiteLemmas.{registered_fit, still, fits_then, meets_fit, told_fit, told_all_fit, told_each, bind_fits, reply_fits, in_queue}
-use Rattle.site_wire.proofs.StepLemmas.{dead_woken, begins_fits, settled_fits}
+use Rattle.site_wire.proofs.StepLemmas.{begins_fits, settled_fits}
 use Rattle.site_wire.proofs.UnitLemmas.{units_fit}
 use Rattle.site_wire.proofs.AnswerLemmas.{BesidesFits, told_all_waits, ends_fit, contents_fit, end_moves, asked_fits, makes_fit}
 use Rattle.site_model.proofs.CellKeyLemmas.{place_here, place_other}
 use Rattle.site_model.proofs.FrameLemmas.{told_all_counters}
 use Rattle.site_model.proofs.BundleLemmas.{bundle_wire}
+use Rattle.world_model.proofs.AbsentLemmas.{told_all_none}
 
 -- ---- the variables of a message
 
@@ -92,19 +92,6 @@ vars_fit : (m : Msg) → FitsWire m → Each FitsVar (message_vars m)
 vars_fit m h = each_append FitsVar (body_vars m) (vars_of_equations (message_bundle m)) (body_fits m h) (equations_vars (message_bundle m) (bundle_wire m h))
 
 -- ---- what equations that come to be known leave as it was
-
-told_dead : (s : Site) (x : VarName) (t : Term) (n : ThreadName) → thread_state s n ≡ None → thread_state (with_known_equation s x t) n ≡ None
-told_dead s x t n none = go (is_own s.records x) refl (knowledge s.records x) refl
-  where
-    go : (c : Bool) → is_own s.records x ≡ c → (o : Option (Option Term)) → knowledge s.records x ≡ o → thread_state (with_known_equation s x t) n ≡ None
-    go true q o e = rw (e, q) none
-    go false q None e = rw (e, q) (dead_woken (goes_on ((x, t) ∷ s.equations) x) s.threads n none)
-    go false q (Some None) e = rw (e, q) (dead_woken (goes_on ((x, t) ∷ s.equations) x) s.threads n none)
-    go false q (Some (Some r)) e = rw (e, q) none
-
-told_all_dead : (es : List Equation) (s : Site) (n : ThreadName) → thread_state s n ≡ None → thread_state (with_known_equations s es) n ≡ None
-told_all_dead [] s n none = none
-told_all_dead (e ∷ es) s n none = told_all_dead es (with_known_equation s e.0 e.1) n (told_dead s e.0 e.1 n none)
 
 -- ---- contents
 
@@ -203,7 +190,7 @@ module _ (p : List Stmt) (is : IsProgram p) (n limit : ℕ) (high : limit ≤ 25
 
   row_fits : (m : Msg) (s : Site) → IsFit p n s m → SiteFits p i s → SiteFits p i (opening m s).site → TransitionFits p i (message_row p limit m (opening m s).site)
   row_fits (msg.Spawn th code vars es) s fit h g = still p is limit high i low (with_thread p (Some (birth th code vars)) (opening (msg.Spawn th code vars es) s).site)
-      (begins_fits p is n limit high i low (birth th code vars) (opening (msg.Spawn th code vars es) s).site (fit.wire.0, fit.wire.1.1, fit.codes.0.1) (told_all_dead es s th fit.takes)
+      (begins_fits p is n limit high i low (birth th code vars) (opening (msg.Spawn th code vars es) s).site (fit.wire.0, fit.wire.1.1, fit.codes.0.1) (told_all_none es s th fit.takes)
       (λ mine. subst (λ (c : Counters). th.num < c.threads) (sym (told_all_counters es s)) (fit.names.0.3 (mine ∙ sym h.site))) g)
   row_fits (msg.Register x k) s fit h g = registers_fit x k (opening (msg.Register x k) s).site fit.wire.0 g
   row_fits (msg.BindReq x th t es) s fit h g = asks_fit x t th (opening (msg.BindReq x th t es) s).site fit.wire.0 (term_heard p t fit.wire.2 fit.codes.1.0) g

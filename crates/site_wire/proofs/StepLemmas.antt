@@ -35,11 +35,9 @@ use Rattle.oz_model.proofs.CoverLemmas.{covers_for}
 use Rattle.bind_protocol.specs.Rows.{sent_message}
 use Rattle.thread_roster.specs.declared.mode.Awaited.{Awaited}
 use Rattle.thread_roster.specs.declared.mode.Awaited.TheVariants.{Cell, Port}
-use Rattle.thread_roster.specs.declared.mode.Mode.{Mode}
 use Rattle.thread_roster.specs.declared.mode.Mode.TheVariants.{Runs}
 use Rattle.thread_roster.specs.declared.mode.Mode.TheVariants as mode
 use Rattle.thread_roster.specs.Binds.{goes_on}
-use Rattle.thread_roster.specs.Threads.{wake_where}
 use Rattle.token_chain.specs.declared.token.Token.{Token}
 use Rattle.token_chain.specs.declared.token.Token.TheVariants.{Away, Asked, Here}
 use Rattle.token_chain.specs.Holding.{here_with}
@@ -52,7 +50,8 @@ use Rattle.site_model.specs.Requests.{with_asking}
 use Rattle.site_model.specs.Messages.{with_thread}
 use Rattle.site_model.specs.Unit.{home_among, next_names, counter_after, with_fresh_names, placement, birth_row, content_here, after_cell, runnable_state, after_effect, step_row, step_pick, effect_here, IsTokenHere, bind_attempt, with_mode}
 use Rattle.site_model.proofs.EffectLemmas.{bind_effect}
-use Rattle.world_model.proofs.KeyLemmas.{goes_there, woken_new, woken_old}
+use Rattle.world_model.proofs.KeyLemmas.{goes_there, woken_new}
+use Rattle.world_model.proofs.AbsentLemmas.{woken_none}
 use Rattle.site_wire.specs.Sending.{IsOfSites, EquationsFit, StackFits, IsAtNameless, IsAtSend, ThreadFits, QueueFits, ContentFits, SiteFits, TransitionFits}
 use Rattle.site_wire.proofs.TextLemmas.{free_short}
 use Rattle.site_wire.proofs.TermLemmas.{term_spelled}
@@ -83,15 +82,6 @@ fresh_of i c (kind.Thread ∷ ks) low few = (low, fresh_of i (counter_after c ki
 
 -- ---- a name that no thread has
 
-pub dead_woken : (f : Mode → Bool) (ts : Threads) (n : ThreadName) → value_of equal_thread ts n ≡ None → value_of equal_thread (wake_where f ts) n ≡ None
-dead_woken f ts n none = go (value_of equal_thread (wake_where f ts) n) refl
-  where
-    go : (o : Option ThreadState) → value_of equal_thread (wake_where f ts) n ≡ o → value_of equal_thread (wake_where f ts) n ≡ None
-    go None e = e
-    go (Some v) e =
-        let was = woken_old f ts n v.0 v.1 e in
-        let contrary : ◌≡◌ {A = Option ThreadState} None (Some (v.0, was.0)) = sym none ∙ was.1 in cc
-
 dead_goes : (ts : Threads) (th n : ThreadName) (r : Option ThreadState) (w : ThreadState) → value_of equal_thread ts th ≡ Some w → value_of equal_thread ts n ≡ None → value_of equal_thread (with_optional_value equal_thread ts th r) n ≡ None
 dead_goes ts th n r w now none = goes_there equal_thread same_thread_decides ts th n r apart ∙ none
   where
@@ -102,7 +92,7 @@ dead_goes ts th n r w now none = goes_there equal_thread same_thread_decides ts 
 
 dead_binds : (limit : ℕ) (es : List Equation) (s : Site) (n : ThreadName) → thread_state s n ≡ None → thread_state (own_binds limit es s).site n ≡ None
 dead_binds limit [] s n none = none
-dead_binds limit (e ∷ es) s n none = dead_woken (goes_on (e ∷ (own_binds limit es s).site.equations) e.0) (own_binds limit es s).site.threads n (dead_binds limit es s n none)
+dead_binds limit (e ∷ es) s n none = woken_none (goes_on (e ∷ (own_binds limit es s).site.equations) e.0) (own_binds limit es s).site.threads n (dead_binds limit es s n none)
 
 -- ---- what binds leave as it was
 

@@ -9,8 +9,9 @@ use Rattle.site_message.specs.declared.story.Sight.{Sight}
 use Rattle.site_message.specs.declared.reason.Reason.{Reason}
 use Rattle.site_message.specs.Story.{own, hand}
 use Rattle.book_lock.specs.declared.lock.SiteSeat.{SiteSeat}
-use Rattle.book_lock.specs.Rule.{IsContinuation, IsLawfulChange, AreInAgreement, part, outside}
+use Rattle.book_lock.specs.Rule.{IsContinuation, IsLawfulChange, part, outside}
 use Rattle.book_lock.specs.Seats.{last_seen, IsOutsideOf}
+use Rattle.book_lock.proofs.Parts.{agrees_refl}
 use Rattle.site_model.specs.Site.{is_idle}
 use Rattle.site_core.specs.Site.{IsTurnMade, number_in}
 use Rattle.site_worker.specs.declared.host.Host.{Host}
@@ -38,9 +39,6 @@ both_lawful k old between new first second = let es = first.appended in let fs =
   reason = λ r is. second.reason r (first.reason r is);
   fixed = second.fixed ∙ first.fixed;
 }
-
-agrees_refl : (k : ℕ) (x : Sight) → AreInAgreement k x x
-agrees_refl k x = record { own_entries = refl; own_hands = refl; begins = ([], refl); reason = λ r e. e; fixed = refl }
 
 -- what the seat would have seen, had it left in between
 abbrev seat_between : SiteSeat → Sight → SiteSeat

@@ -6,6 +6,7 @@ use Rattle.std.specs.Ordering.{is_lt}
 use Rattle.tree_node.specs.declared.node.Feature.{Feature}
 use Rattle.tree_node.specs.Node.{feature_cmp}
 use Rattle.tree_node.specs.Goal.{equal_feature}
+use Rattle.tree_node.proofs.BoolLemmas.{exchange}
 use Rattle.kernel_syntax.specs.declared.sugar.Field.{Field}
 use Rattle.kernel_syntax.specs.Sugar.{Value, Values, field_of}
 use Rattle.oz_grammar.specs.declared.symbol.Symbol.{Symbol}
@@ -177,17 +178,12 @@ wanted_read (suc k) d r scope before n symbols σ le =
 abbrev pub Same : List Feature → FieldsSoFar → Type 0
 Same before m = (f : Feature) → is_given before f ≡ is_given (features_in m.0) f
 
-or_swap : (a b c : Bool) → (a || (b || c)) ≡ (b || (a || c))
-or_swap true true c = refl
-or_swap true false c = refl
-or_swap false b c = refl
-
 given_slot : (f : Feature) (p : Field) (slots : List (Feature × Field)) (g : Feature) → is_given (features_in (with_field f p slots)) g ≡ (equal_feature f g || is_given (features_in slots) g)
 given_slot f p [] g = refl
 given_slot f p ((h, q) ∷ slots) g =
     let chosen : (b : Bool) → is_given (features_in (cond b ((f, p) ∷ (h, q) ∷ slots) ((h, q) ∷ with_field f p slots))) g ≡ (equal_feature f g || (equal_feature h g || is_given (features_in slots) g)) = elim [
       | true ↦ refl
-      | false ↦ ap (λ (b : Bool). equal_feature h g || b) (given_slot f p slots g) ∙ or_swap (equal_feature h g) (equal_feature f g) (is_given (features_in slots) g)
+      | false ↦ ap (λ (b : Bool). equal_feature h g || b) (given_slot f p slots g) ∙ exchange (equal_feature h g) (equal_feature f g) (is_given (features_in slots) g)
     ] in chosen (is_lt (feature_cmp f h))
 
 pub same_slots : (before : List Feature) (m : FieldsSoFar) (f : Feature) (v : Value) (i nth : ℕ) → Same before m → Same (f ∷ before) (with_field f (field_of v i) m.0, with_value m.1 v, nth)

@@ -19,9 +19,9 @@ use Rattle.oz_grammar.specs.Faults.{use_fault, number_fault, site_fault, count_f
 use Rattle.oz_grammar.specs.Check.{first_fault}
 use Rattle.oz_grammar.specs.Points.{First, expected_sign, is_sign}
 use Rattle.oz_grammar.specs.Automata.{read_step, then_points}
-use Rattle.oz_grammar.specs.Reading.{◌>>=◌, fault_expected, fault_or, sign_at, used_variable_at, selection_at, FieldOut, field_name_at, named_field_at, field_at, is_close_round, fields_at, locals_at, first_local_at, PatternOut, pair_pattern_at, record_pattern_at, pattern_at, site_at, catch_name_at}
+use Rattle.oz_grammar.specs.Reading.{◌>>=◌, fault_expected, fault_or, sign_at, used_variable_at, selection_at, field_name_at, named_field_at, field_at, is_close_round, fields_at, locals_at, first_local_at, PatternOut, pair_pattern_at, record_pattern_at, pattern_at, site_at, catch_name_at}
 use Rattle.oz_grammar.proofs.Shorter.{pattern_short}
-use Rattle.oz_grammar.proofs.PartReads.{read_on, unless_read, chain, full, err_both}
+use Rattle.oz_grammar.proofs.PartReads.{read_on, unless_read, chain, full, err_both, kept}
 use Rattle.surface_grammar.specs.declared.parts.Callable.{Callable}
 use Rattle.surface_grammar.specs.Points.{Branch, Ends, InHandler, Point, At, Here, LocalName, LocalMore, CallableName, Formals, SelectionOf, PatternOf, BehindPattern, PatternTail, PatternField, PatternName, SiteHere, CatchName, clause_points, body_points, formal_wrong, run, points_automaton}
 use Rattle.surface_grammar.specs.Reading.{Read, formals_at, clause_head_at}
@@ -161,9 +161,6 @@ round_read : (b : Branch) (scope : Scope) (d room : ℕ) (before : Fields) (nth 
     → run symbols (PatternField b scope d room before nth ∷ σ) ≡ run (drop 1 symbols) (behind_names b scope d (names_in before) σ)
 round_read b scope d room before nth (t.CloseRound ∷ xs) σ e = refl
 round_read b scope d room before nth symbols σ e = absurd cc
-
-abbrev kept : FieldOut → Result (Fields × List Symbol) Fault
-kept m = Ok (m.0, m.2)
 
 fields_read : (room : ℕ) (b : Branch) (scope : Scope) (d : ℕ) (before : Fields) (nth : ℕ) (symbols : List Symbol) (σ : List Point)
     → run symbols (PatternField b scope d room before nth ∷ σ) ≡ read_on (fields_at purpose.Declare scope room before nth symbols) (λ m. run m.1 (behind_names b scope d (names_in m.0) σ))

@@ -24,16 +24,14 @@ use Rattle.thread_roster.proofs.SlotLemmas.{placed_set, placed_end, placed_born,
 use Rattle.thread_roster.proofs.WakeLemmas.{IsAwaitingAt, mode_in, never_waits, roused_all, living_roused, threads_bound, threads_determined}
 use Rattle.thread_roster.proofs.WokenLemmas.{woken_all, woken_inside}
 use Rattle.thread_roster.proofs.QueueLemmas.{stays, each_without}
+use Rattle.thread_roster.proofs.TableLemmas.{Filed}
 use Rattle.tree_node.proofs.EachLemmas.{each_append}
 use Rattle.std.proofs.lemmas.List.{length_push}
 
 abbrev pub Waiting : Type 0
 Waiting = Event → List ℕ
 
-abbrev pub Places : Type 0
-Places = List (ThreadName × ℕ)
-
-pub kept_none : {V : Type 0} (slots : List (Slot V)) (by_name : Places) (queue : List ℕ) (waiting_keys : Waiting) → slots ≡ [] → by_name ≡ [] → queue ≡ [] → ((e : Event) → waiting_keys e ≡ []) → IsConsistent slots by_name queue waiting_keys 0 0
+pub kept_none : {V : Type 0} (slots : List (Slot V)) (by_name : Filed) (queue : List ℕ) (waiting_keys : Waiting) → slots ≡ [] → by_name ≡ [] → queue ≡ [] → ((e : Event) → waiting_keys e ≡ []) → IsConsistent slots by_name queue waiting_keys 0 0
 kept_none {V} slots by_name queue waiting_keys a b c none = rw (a, b, c) (empty)
   where
     empty : IsConsistent {V = V} [] [] [] waiting_keys 0 0
@@ -50,7 +48,7 @@ kept_none {V} slots by_name queue waiting_keys a b c none = rw (a, b, c) (empty)
 -- ---- the queue alone
 
 -- the first slot leaves the queue, whose thread does not go on
-pub kept_pop : {V : Type 0} (slots : List (Slot V)) (by_name : Places) (queue rest : List ℕ) (waiting_keys : Waiting) (a b i : ℕ) → IsConsistent slots by_name queue waiting_keys a b → queue ≡ i ∷ rest → (IsModeAt slots i mode.Runs → ⊥) → IsConsistent slots by_name rest waiting_keys a b
+pub kept_pop : {V : Type 0} (slots : List (Slot V)) (by_name : Filed) (queue rest : List ℕ) (waiting_keys : Waiting) (a b i : ℕ) → IsConsistent slots by_name queue waiting_keys a b → queue ≡ i ∷ rest → (IsModeAt slots i mode.Runs → ⊥) → IsConsistent slots by_name rest waiting_keys a b
 kept_pop {V} slots by_name queue rest waiting_keys a b i h e still = record {
   placed = h.placed;
   parked = h.parked;
@@ -66,7 +64,7 @@ kept_pop {V} slots by_name queue rest waiting_keys a b i h e still = record {
     go j s (inr c) = c
 
 -- the first slot goes behind the others
-pub kept_rotated : {V : Type 0} (slots : List (Slot V)) (by_name : Places) (queue rest now : List ℕ) (waiting_keys : Waiting) (a b i : ℕ) → IsConsistent slots by_name queue waiting_keys a b → queue ≡ i ∷ rest → now ≡ rest ++ i ∷ [] → IsConsistent slots by_name now waiting_keys a b
+pub kept_rotated : {V : Type 0} (slots : List (Slot V)) (by_name : Filed) (queue rest now : List ℕ) (waiting_keys : Waiting) (a b i : ℕ) → IsConsistent slots by_name queue waiting_keys a b → queue ≡ i ∷ rest → now ≡ rest ++ i ∷ [] → IsConsistent slots by_name now waiting_keys a b
 kept_rotated {V} slots by_name queue rest now waiting_keys a b i h e f = subst (λ (q : List ℕ). IsConsistent slots by_name q waiting_keys a b) (sym f) (record {
   placed = h.placed;
   parked = h.parked;
@@ -130,7 +128,7 @@ stood x (o ∷ slots) (suc j) m h = stood x slots j m h
 abbrev pub AreLeft : Event → Waiting → Waiting → Type 0
 AreLeft x old left = (y : Event) → (left y ≡ old y) ⊎ ((left y ≡ []) × (x ≡ y))
 
-kept_map : {V : Type 0} (x : Event) (slots : List (Slot V)) (by_name : Places) (queue behind : List ℕ) (waiting_keys left : Waiting) (a b c : ℕ) → IsConsistent slots by_name queue waiting_keys a b → ((j : ℕ) → IsAwaitingAt slots j x → Contains behind j) → AreInside slots behind →
+kept_map : {V : Type 0} (x : Event) (slots : List (Slot V)) (by_name : Filed) (queue behind : List ℕ) (waiting_keys left : Waiting) (a b c : ℕ) → IsConsistent slots by_name queue waiting_keys a b → ((j : ℕ) → IsAwaitingAt slots j x → Contains behind j) → AreInside slots behind →
     AreLeft x waiting_keys left → c ≡ total waiting (map (wake_slot x) slots) → IsConsistent (map (wake_slot x) slots) by_name (queue ++ behind) left a c
 kept_map {V} x slots by_name queue behind waiting_keys left a b c h among inner rest counted = record {
   placed = placed_map x slots (slot_in by_name) h.placed;
@@ -165,12 +163,12 @@ kept_map {V} x slots by_name queue behind waiting_keys left a b c h among inner 
     some y (inr e) = subst (λ (js : List ℕ). AreInside (map (wake_slot x) slots) js) (sym e.0) tt
 
 -- all that waited for this are roused
-pub slots_roused : {V : Type 0} (x : Event) (slots now : List (Slot V)) (by_name : Places) (queue js : List ℕ) (waiting_keys : Waiting) (a b : ℕ) → IsConsistent slots by_name queue waiting_keys a b → js ≡ waiting_keys x → now ≡ wake_slots x slots js →
+pub slots_roused : {V : Type 0} (x : Event) (slots now : List (Slot V)) (by_name : Filed) (queue js : List ℕ) (waiting_keys : Waiting) (a b : ℕ) → IsConsistent slots by_name queue waiting_keys a b → js ≡ waiting_keys x → now ≡ wake_slots x slots js →
     now ≡ map (wake_slot x) slots
 slots_roused x slots now by_name queue js waiting_keys a b h e f =
     f ∙ (ap (λ (k : List ℕ). wake_slots x slots k) e ∙ roused_all x slots (waiting_keys x) (λ j s. h.parked j x s.0.mode (s.0, s.1, refl) s.2))
 
-pub kept_roused : {V : Type 0} (x : Event) (slots now : List (Slot V)) (by_name : Places) (queue more js : List ℕ) (waiting_keys left : Waiting) (a b c : ℕ) → IsConsistent slots by_name queue waiting_keys a b → js ≡ waiting_keys x → more ≡ queue ++ woken x slots js →
+pub kept_roused : {V : Type 0} (x : Event) (slots now : List (Slot V)) (by_name : Filed) (queue more js : List ℕ) (waiting_keys left : Waiting) (a b c : ℕ) → IsConsistent slots by_name queue waiting_keys a b → js ≡ waiting_keys x → more ≡ queue ++ woken x slots js →
     now ≡ wake_slots x slots js → AreLeft x waiting_keys left → c ≡ total waiting now → IsConsistent now by_name more left a c
 kept_roused {V} x slots now by_name queue more js waiting_keys left a b c h e m f rest counted =
     let all : now ≡ map (wake_slot x) slots = slots_roused x slots now by_name queue js waiting_keys a b h e f in
@@ -205,7 +203,7 @@ inside_set : {X : Type 0} (xs : List X) (i : ℕ) (x : X) (js : List ℕ) → Ar
 inside_set xs i x js h = inside_same xs (slice_set xs i x) js (set_length xs i x) h
 
 -- a thread stands otherwise: where it can go on it is in the queue, where it waits for a variable it is among the keys
-kept_set : {V : Type 0} (slots : List (Slot V)) (by_name : Places) (queue more : List ℕ) (waiting_keys left : Waiting) (a b c : ℕ) (n : ThreadName) (i : ℕ) (old new : Occupant V) → IsConsistent slots by_name queue waiting_keys a b →
+kept_set : {V : Type 0} (slots : List (Slot V)) (by_name : Filed) (queue more : List ℕ) (waiting_keys left : Waiting) (a b c : ℕ) (n : ThreadName) (i : ℕ) (old new : Occupant V) → IsConsistent slots by_name queue waiting_keys a b →
     slot_in by_name n ≡ Some i → slice_get slots i ≡ Some (Some old) → new.name ≡ n → ((j : ℕ) → Contains queue j → Contains more j) → ((y : Event) (j : ℕ) → Contains (waiting_keys y) j → Contains (left y) j) →
     (new.mode ≡ mode.Runs → Contains more i) → ((x : Event) → wakes x new.mode ≡ true → Contains (left x) i) →
     AreInside slots more → ((y : Event) → AreInside slots (left y)) → c + weight old.mode ≡ b + weight new.mode → IsConsistent (slice_set slots i (Some new)) by_name more left a c
@@ -228,7 +226,7 @@ kept_set {V} slots by_name queue more waiting_keys left a b c n i old new h e at
     rests j x m (inr s) w = further x j (h.parked j x m s w)
 
 -- one more key at some variables, of a slot that is there
-keyed_more : {V : Type 0} (slots : List (Slot V)) (by_name : Places) (queue : List ℕ) (waiting_keys left : Waiting) (a b : ℕ) (n : ThreadName) (i : ℕ) → IsConsistent slots by_name queue waiting_keys a b → slot_in by_name n ≡ Some i →
+keyed_more : {V : Type 0} (slots : List (Slot V)) (by_name : Filed) (queue : List ℕ) (waiting_keys left : Waiting) (a b : ℕ) (n : ThreadName) (i : ℕ) → IsConsistent slots by_name queue waiting_keys a b → slot_in by_name n ≡ Some i →
     HasMoreKeys waiting_keys i left → (y : Event) → AreInside slots (left y)
 keyed_more {V} slots by_name queue waiting_keys left a b n i h e more y = from_all (left y) (λ j k. inside j (more.only y j k))
   where
@@ -244,7 +242,7 @@ keyed_more {V} slots by_name queue waiting_keys left a b n i h e more y = from_a
     from_all (j ∷ js) f = (f j (Contains-head j js), from_all js (λ l k. f l (Contains-tail j l js k)))
 
 -- keys that are there besides change nothing
-pub kept_keys : {V : Type 0} (slots : List (Slot V)) (by_name : Places) (queue : List ℕ) (waiting_keys left : Waiting) (a b : ℕ) (n : ThreadName) (i : ℕ) → IsConsistent slots by_name queue waiting_keys a b → slot_in by_name n ≡ Some i →
+pub kept_keys : {V : Type 0} (slots : List (Slot V)) (by_name : Filed) (queue : List ℕ) (waiting_keys left : Waiting) (a b : ℕ) (n : ThreadName) (i : ℕ) → IsConsistent slots by_name queue waiting_keys a b → slot_in by_name n ≡ Some i →
     HasMoreKeys waiting_keys i left → IsConsistent slots by_name queue left a b
 kept_keys slots by_name queue waiting_keys left a b n i h e more = record {
   placed = h.placed;
@@ -257,7 +255,7 @@ kept_keys slots by_name queue waiting_keys left a b n i h e more = record {
 }
 
 -- it waits for something in a variable, or in several, and its slot is one more key at each
-pub kept_parked : {V : Type 0} (slots now : List (Slot V)) (by_name : Places) (queue : List ℕ) (waiting_keys left : Waiting) (a b c : ℕ) (n : ThreadName) (i : ℕ) (old : Occupant V) (m : Mode) → IsConsistent slots by_name queue waiting_keys a b →
+pub kept_parked : {V : Type 0} (slots now : List (Slot V)) (by_name : Filed) (queue : List ℕ) (waiting_keys left : Waiting) (a b c : ℕ) (n : ThreadName) (i : ℕ) (old : Occupant V) (m : Mode) → IsConsistent slots by_name queue waiting_keys a b →
     slot_in by_name n ≡ Some i → slice_get slots i ≡ Some (Some old) → old.name ≡ n → now ≡ slice_set slots i (Some (record old { mode = m })) →
     is_waiting m ≡ true → HasMoreKeys waiting_keys i left → ((e : Event) → wakes e m ≡ true → Contains (left e) i) → c + weight old.mode ≡ b + 1 → IsConsistent now by_name queue left a c
 kept_parked {V} slots now by_name queue waiting_keys left a b c n i old m h e at is f waits more there counted =
@@ -269,7 +267,7 @@ kept_parked {V} slots now by_name queue waiting_keys left a b c n i old m h e at
     still r = let both : true ≡ false = sym waits ∙ ap is_waiting r in cc
 
 -- it waits for something else
-pub kept_waits_for : {V : Type 0} (slots now : List (Slot V)) (by_name : Places) (queue : List ℕ) (waiting_keys : Waiting) (a b c : ℕ) (n : ThreadName) (i : ℕ) (old : Occupant V) (m : Mode) → IsConsistent slots by_name queue waiting_keys a b →
+pub kept_waits_for : {V : Type 0} (slots now : List (Slot V)) (by_name : Filed) (queue : List ℕ) (waiting_keys : Waiting) (a b c : ℕ) (n : ThreadName) (i : ℕ) (old : Occupant V) (m : Mode) → IsConsistent slots by_name queue waiting_keys a b →
     slot_in by_name n ≡ Some i → slice_get slots i ≡ Some (Some old) → old.name ≡ n → now ≡ slice_set slots i (Some (record old { mode = m })) → m ≢ mode.Runs → ((x : Event) → wakes x m ≡ true → ⊥) → c + weight old.mode ≡ b + weight m →
     IsConsistent now by_name queue waiting_keys a c
 kept_waits_for {V} slots now by_name queue waiting_keys a b c n i old m h e at is f still other counted =
@@ -277,7 +275,7 @@ kept_waits_for {V} slots now by_name queue waiting_keys a b c n i old m h e at i
     (kept_set slots by_name queue queue waiting_keys waiting_keys a b c n i old (record old { mode = m }) h e at is (λ j k. k) (λ y j k. k) (λ r. absurd (still r)) (λ x w. absurd (other x w)) h.inside h.keys_inside counted)
 
 -- it goes on, and its slot is in the queue
-pub kept_runs : {V : Type 0} (slots now : List (Slot V)) (by_name : Places) (queue more : List ℕ) (waiting_keys : Waiting) (a b c : ℕ) (n : ThreadName) (i : ℕ) (old : Occupant V) → IsConsistent slots by_name queue waiting_keys a b →
+pub kept_runs : {V : Type 0} (slots now : List (Slot V)) (by_name : Filed) (queue more : List ℕ) (waiting_keys : Waiting) (a b c : ℕ) (n : ThreadName) (i : ℕ) (old : Occupant V) → IsConsistent slots by_name queue waiting_keys a b →
     slot_in by_name n ≡ Some i → slice_get slots i ≡ Some (Some old) → old.name ≡ n → now ≡ slice_set slots i (Some (record old { mode = mode.Runs })) → more ≡ queue ++ i ∷ [] → c + weight old.mode ≡ b → IsConsistent now by_name more waiting_keys a c
 kept_runs {V} slots now by_name queue more waiting_keys a b c n i old h e at is f g counted =
     subst (λ (l : List (Slot V)). IsConsistent l by_name more waiting_keys a c) (sym f)
@@ -287,7 +285,7 @@ kept_runs {V} slots now by_name queue more waiting_keys a b c n i old h e at is 
     (each_append (λ (j : ℕ). j < length slots) queue (i ∷ []) h.inside (only_inside slots n i (only_at slots (slot_in by_name) n i h.placed e), tt)) h.keys_inside (omega (arith, counted))))
 
 -- its value is another
-pub kept_value : {V : Type 0} (slots : List (Slot V)) (by_name : Places) (queue : List ℕ) (waiting_keys : Waiting) (a b : ℕ) (n : ThreadName) (i : ℕ) (old : Occupant V) (v : V) → IsConsistent slots by_name queue waiting_keys a b →
+pub kept_value : {V : Type 0} (slots : List (Slot V)) (by_name : Filed) (queue : List ℕ) (waiting_keys : Waiting) (a b : ℕ) (n : ThreadName) (i : ℕ) (old : Occupant V) (v : V) → IsConsistent slots by_name queue waiting_keys a b →
     slot_in by_name n ≡ Some i → slice_get slots i ≡ Some (Some old) → old.name ≡ n → IsConsistent (slice_set slots i (Some (record old { value = v }))) by_name queue waiting_keys a b
 kept_value {V} slots by_name queue waiting_keys a b n i old v h e at is =
     kept_set slots by_name queue queue waiting_keys waiting_keys a b b n i old (record old { value = v }) h e at is (λ j k. k) (λ y j k. k) (λ r. h.queued i (old, at, r)) (λ x w. h.parked i x old.mode (old, at, refl) w) h.inside h.keys_inside refl
@@ -301,7 +299,7 @@ stands_none (o ∷ slots) zero (suc j) m h = h
 stands_none (o ∷ slots) (suc i) zero m h = h
 stands_none (o ∷ slots) (suc i) (suc j) m h = stands_none slots i j m h
 
-pub kept_end : {V : Type 0} (slots now : List (Slot V)) (by_name rest : Places) (queue : List ℕ) (waiting_keys : Waiting) (a b c d : ℕ) (n : ThreadName) (i : ℕ) (old : Occupant V) → IsConsistent slots by_name queue waiting_keys a b → slot_in by_name n ≡ Some i →
+pub kept_end : {V : Type 0} (slots now : List (Slot V)) (by_name rest : Filed) (queue : List ℕ) (waiting_keys : Waiting) (a b c d : ℕ) (n : ThreadName) (i : ℕ) (old : Occupant V) → IsConsistent slots by_name queue waiting_keys a b → slot_in by_name n ≡ Some i →
     slice_get slots i ≡ Some (Some old) → now ≡ slice_set slots i None → ((k : ThreadName) → slot_in rest k ≡ with_slot (slot_in by_name) n None k) → c + 1 ≡ a → d + weight old.mode ≡ b → IsConsistent now rest queue waiting_keys c d
 kept_end {V} slots now by_name rest queue waiting_keys a b c d n i old h e at f g lived waited = subst (λ (l : List (Slot V)). IsConsistent l rest queue waiting_keys c d) (sym f) (record {
   placed = placed_end n slots (slot_in by_name) (slot_in rest) i h.placed e (g n ∙ rw (is_same n n refl) refl) (λ k differs. g k ∙ rw (is_other n k differs) refl);
@@ -331,7 +329,7 @@ inside_more : {X : Type 0} (xs : List X) (x : X) (js : List ℕ) → AreInside x
 inside_more xs x [] h = tt
 inside_more xs x (j ∷ js) h = let more = length_push xs x in let below = h.0 in (omega (arith, more, below), inside_more xs x js h.1)
 
-pub kept_born : {V : Type 0} (slots now : List (Slot V)) (by_name more : Places) (queue longer : List ℕ) (waiting_keys : Waiting) (a b c : ℕ) (n : ThreadName) (w : Occupant V) → IsConsistent slots by_name queue waiting_keys a b → slot_in by_name n ≡ None →
+pub kept_born : {V : Type 0} (slots now : List (Slot V)) (by_name more : Filed) (queue longer : List ℕ) (waiting_keys : Waiting) (a b c : ℕ) (n : ThreadName) (w : Occupant V) → IsConsistent slots by_name queue waiting_keys a b → slot_in by_name n ≡ None →
     w.name ≡ n → w.mode ≡ mode.Runs → now ≡ slots ++ Some w ∷ [] → ((k : ThreadName) → slot_in more k ≡ with_slot (slot_in by_name) n (Some (length slots)) k) → longer ≡ queue ++ length slots ∷ [] → c ≡ a + 1 → IsConsistent now more longer waiting_keys c b
 kept_born {V} slots now by_name more queue longer waiting_keys a b c n w h none is runs f g q counted =
     rw (f, q) (record {
@@ -367,13 +365,13 @@ still_set {V} slots now i h f differs s =
 pub still_none : {V : Type 0} (slots now : List (Slot V)) (i : ℕ) → now ≡ slice_set slots i None → IsModeAt now i mode.Runs → ⊥
 still_none {V} slots now i f s = let same : None ≡ Some s.0 = put_there slots i None (Some s.0) (sym (ap (λ (l : List (Slot V)). slice_get l i) f) ∙ s.1) in cc
 
-pub kept_left : {V : Type 0} (slots : List (Slot V)) (by_name : Places) (queue rest : List ℕ) (waiting_keys : Waiting) (a b i : ℕ) → HasLeft i queue rest → (IsModeAt slots i mode.Runs → ⊥) → IsConsistent slots by_name queue waiting_keys a b →
+pub kept_left : {V : Type 0} (slots : List (Slot V)) (by_name : Filed) (queue rest : List ℕ) (waiting_keys : Waiting) (a b i : ℕ) → HasLeft i queue rest → (IsModeAt slots i mode.Runs → ⊥) → IsConsistent slots by_name queue waiting_keys a b →
     IsConsistent slots by_name rest waiting_keys a b
 kept_left slots by_name queue rest waiting_keys a b i (inl same) still h = subst (λ (q : List ℕ). IsConsistent slots by_name q waiting_keys a b) (sym same) h
 kept_left slots by_name queue rest waiting_keys a b i (inr first) still h = kept_pop slots by_name queue rest waiting_keys a b i h first still
 
 -- a slot whose thread does not go on leaves the queue, wherever it stood
-pub kept_without : {V : Type 0} (slots : List (Slot V)) (by_name : Places) (queue rest : List ℕ) (waiting_keys : Waiting) (a b i : ℕ) → rest ≡ without_slot i queue → (IsModeAt slots i mode.Runs → ⊥) → IsConsistent slots by_name queue waiting_keys a b →
+pub kept_without : {V : Type 0} (slots : List (Slot V)) (by_name : Filed) (queue rest : List ℕ) (waiting_keys : Waiting) (a b i : ℕ) → rest ≡ without_slot i queue → (IsModeAt slots i mode.Runs → ⊥) → IsConsistent slots by_name queue waiting_keys a b →
     IsConsistent slots by_name rest waiting_keys a b
 kept_without {V} slots by_name queue rest waiting_keys a b i e still h = subst (λ (q : List ℕ). IsConsistent slots by_name q waiting_keys a b) (sym e) (record {
   placed = h.placed;
@@ -386,7 +384,7 @@ kept_without {V} slots by_name queue rest waiting_keys a b i e still h = subst (
 })
 
 -- slots whose threads do not go on have left the front of the queue
-pub kept_rest : {V : Type 0} (slots : List (Slot V)) (by_name : Places) (queue rest : List ℕ) (waiting_keys : Waiting) (a b : ℕ) → IsRest slots queue rest → IsConsistent slots by_name queue waiting_keys a b → IsConsistent slots by_name rest waiting_keys a b
+pub kept_rest : {V : Type 0} (slots : List (Slot V)) (by_name : Filed) (queue rest : List ℕ) (waiting_keys : Waiting) (a b : ℕ) → IsRest slots queue rest → IsConsistent slots by_name queue waiting_keys a b → IsConsistent slots by_name rest waiting_keys a b
 kept_rest {V} slots by_name queue rest waiting_keys a b (front, e, still) h = go front still (subst (λ (q : List ℕ). IsConsistent slots by_name q waiting_keys a b) e h)
   where
     go : (js : List ℕ) → Each (λ (j : ℕ). IsModeAt slots j mode.Runs → ⊥) js → IsConsistent slots by_name (js ++ rest) waiting_keys a b → IsConsistent slots by_name rest waiting_keys a b
@@ -410,7 +408,7 @@ none_runs [] h = tt
 none_runs (None ∷ slots) h = none_runs slots (λ j s. h (suc j) s)
 none_runs {V} (Some k ∷ slots) h = each_append _ (threads_in slots) (entry k ∷ []) (none_runs slots (λ j s. h (suc j) s)) ((λ e. h 0 (k, refl, e)), tt)
 
-pub none_left : {V : Type 0} (slots : List (Slot V)) (by_name : Places) (queue rest : List ℕ) (waiting_keys : Waiting) (a b : ℕ) → IsConsistent slots by_name queue waiting_keys a b → IsRest slots queue rest → rest ≡ [] → AllWait (threads_in slots)
+pub none_left : {V : Type 0} (slots : List (Slot V)) (by_name : Filed) (queue rest : List ℕ) (waiting_keys : Waiting) (a b : ℕ) → IsConsistent slots by_name queue waiting_keys a b → IsRest slots queue rest → rest ≡ [] → AllWait (threads_in slots)
 none_left {V} slots by_name queue rest waiting_keys a b h left e = none_runs slots (λ j s. nothing j (subst (λ (q : List ℕ). Contains q j) e (now.queued j s)))
   where
     now : IsConsistent slots by_name rest waiting_keys a b
@@ -420,13 +418,13 @@ none_left {V} slots by_name queue rest waiting_keys a b h left e = none_runs slo
     nothing j (k, below, is) = absurd (omega arith)
 
 -- the first is a thread that can go on
-pub next_goes : {V : Type 0} (slots : List (Slot V)) (by_name : Places) (queue rest : List ℕ) (waiting_keys : Waiting) (a b : ℕ) (n : ThreadName) → IsConsistent slots by_name queue waiting_keys a b → IsNext slots rest n → IsRunnable (threads_in slots) n
+pub next_goes : {V : Type 0} (slots : List (Slot V)) (by_name : Filed) (queue rest : List ℕ) (waiting_keys : Waiting) (a b : ℕ) (n : ThreadName) → IsConsistent slots by_name queue waiting_keys a b → IsNext slots rest n → IsRunnable (threads_in slots) n
 next_goes {V} slots by_name queue rest waiting_keys a b n h (i, more, k, e, at, is, runs) =
     let placed = placed_there slots (slot_in by_name) i k n h.placed at is in
     let there = found n slots i k (only_at slots (slot_in by_name) n i h.placed placed) at in
     (k.value, there ∙ ap (λ (m : Mode). Some (k.value, m)) runs)
 
-pub kept_turned : {V : Type 0} (slots : List (Slot V)) (by_name : Places) (queue now : List ℕ) (waiting_keys : Waiting) (a b : ℕ) → ((i : ℕ) (rest : List ℕ) → queue ≡ i ∷ rest → now ≡ rest ++ i ∷ []) → (queue ≡ [] → now ≡ []) →
+pub kept_turned : {V : Type 0} (slots : List (Slot V)) (by_name : Filed) (queue now : List ℕ) (waiting_keys : Waiting) (a b : ℕ) → ((i : ℕ) (rest : List ℕ) → queue ≡ i ∷ rest → now ≡ rest ++ i ∷ []) → (queue ≡ [] → now ≡ []) →
     IsConsistent slots by_name queue waiting_keys a b → IsConsistent slots by_name now waiting_keys a b
 kept_turned {V} slots by_name [] now waiting_keys a b some none h = subst (λ (q : List ℕ). IsConsistent slots by_name q waiting_keys a b) (sym (none refl)) h
 kept_turned slots by_name (i ∷ rest) now waiting_keys a b some none h = kept_rotated slots by_name (i ∷ rest) rest now waiting_keys a b i h refl (some i rest refl)
@@ -527,12 +525,12 @@ pub stands_as : {V : Type 0} (slots : List (Slot V)) (i : ℕ) (o : Slot V) → 
 stands_as slots i o at still s = let both : Some o ≡ Some (Some s.0) = sym at ∙ s.1 in let same : o ≡ Some s.0 = cc in still s.0 same s.2
 
 -- what is found first
-pub first_goes : {V : Type 0} (slots : List (Slot V)) (by_name : Places) (queue rest : List ℕ) (waiting_keys : Waiting) (a b : ℕ) (o : Option ThreadName) → IsConsistent slots by_name queue waiting_keys a b → IfSome o (λ n. IsNext slots rest n) →
+pub first_goes : {V : Type 0} (slots : List (Slot V)) (by_name : Filed) (queue rest : List ℕ) (waiting_keys : Waiting) (a b : ℕ) (o : Option ThreadName) → IsConsistent slots by_name queue waiting_keys a b → IfSome o (λ n. IsNext slots rest n) →
     IfSome o (λ n. IsRunnable (threads_in slots) n)
 first_goes slots by_name queue rest waiting_keys a b None h next = tt
 first_goes slots by_name queue rest waiting_keys a b (Some n) h next = next_goes slots by_name queue rest waiting_keys a b n h next
 
-pub none_goes : {V : Type 0} (slots : List (Slot V)) (by_name : Places) (queue rest : List ℕ) (waiting_keys : Waiting) (a b : ℕ) (o : Option ThreadName) → IsConsistent slots by_name queue waiting_keys a b → IsRest slots queue rest → IfNone o (rest ≡ []) →
+pub none_goes : {V : Type 0} (slots : List (Slot V)) (by_name : Filed) (queue rest : List ℕ) (waiting_keys : Waiting) (a b : ℕ) (o : Option ThreadName) → IsConsistent slots by_name queue waiting_keys a b → IsRest slots queue rest → IfNone o (rest ≡ []) →
     IfNone o (AllWait (threads_in slots))
 none_goes slots by_name queue rest waiting_keys a b None h left none = none_left slots by_name queue rest waiting_keys a b h left none
 none_goes slots by_name queue rest waiting_keys a b (Some n) h left none = tt
@@ -562,7 +560,7 @@ pub value_is : {V : Type 0} (o : Slot V) (h : Occupant V) (v : V) → o ≡ Some
 value_is o h v is there = let both : Some h.value ≡ Some v = ap value_there (sym is) ∙ there in cc
 
 -- another table that says the same of each name
-pub kept_named : {V : Type 0} (slots : List (Slot V)) (by_name more : Places) (queue : List ℕ) (waiting_keys : Waiting) (a b : ℕ) → IsConsistent slots by_name queue waiting_keys a b → ((k : ThreadName) → slot_in more k ≡ slot_in by_name k) →
+pub kept_named : {V : Type 0} (slots : List (Slot V)) (by_name more : Filed) (queue : List ℕ) (waiting_keys : Waiting) (a b : ℕ) → IsConsistent slots by_name queue waiting_keys a b → ((k : ThreadName) → slot_in more k ≡ slot_in by_name k) →
     IsConsistent slots more queue waiting_keys a b
 kept_named {V} slots by_name more queue waiting_keys a b h same = record {
   placed = λ n. subst (λ (o : Option ℕ). IsPlaced slots n o) (sym (same n)) (h.placed n);
@@ -575,7 +573,7 @@ kept_named {V} slots by_name more queue waiting_keys a b h same = record {
 }
 
 -- a name that had none gets a slot, and then has none again
-pub forgotten : (by_name more less : Places) (n : ThreadName) (i : ℕ) → slot_in by_name n ≡ None → ((k : ThreadName) → slot_in more k ≡ with_slot (slot_in by_name) n (Some i) k) → ((k : ThreadName) → slot_in less k ≡ with_slot (slot_in more) n None k) →
+pub forgotten : (by_name more less : Filed) (n : ThreadName) (i : ℕ) → slot_in by_name n ≡ None → ((k : ThreadName) → slot_in more k ≡ with_slot (slot_in by_name) n (Some i) k) → ((k : ThreadName) → slot_in less k ≡ with_slot (slot_in more) n None k) →
     (k : ThreadName) → slot_in less k ≡ slot_in by_name k
 forgotten by_name more less n i none added left k = go (name_cases n k)
   where

@@ -8,6 +8,7 @@ use Rattle.tree_node.specs.declared.names.ThreadName.{ThreadName}
 use Rattle.tree_node.specs.Each.{Each, AreDistinct}
 use Rattle.tree_node.specs.State.{equal_thread}
 use Rattle.tree_node.proofs.ClassLemmas.{Contains-head, Contains-tail}
+use Rattle.tree_node.proofs.ListLemmas.{get_last}
 use Rattle.thread_roster.specs.declared.mode.Mode.TheVariants as mode
 use Rattle.thread_roster.specs.declared.slot.Occupant.{Occupant}
 use Rattle.thread_roster.specs.Invariant.{IsOrdered}
@@ -139,10 +140,6 @@ get_left : {X : Type 0} (xs : List X) (x : X) (j : ℕ) → j < length xs → sl
 get_left [] x j below = absurd (omega (arith, below))
 get_left (y ∷ xs) x zero below = refl
 get_left (y ∷ xs) x (suc j) below = get_left xs x j (omega (arith, below))
-
-get_last : {X : Type 0} (xs : List X) (x : X) → slice_get (xs ++ x ∷ []) (length xs) ≡ Some x
-get_last [] x = refl
-get_last (y ∷ xs) x = get_last xs x
 
 pub names_born : {V : Type 0} (slots now : List (Slot V)) (o : Slot V) → now ≡ slots ++ o ∷ [] → (js : List ℕ) → AreInside slots js → names_at now js ≡ names_at slots js
 names_born {V} slots now o e js inside = ap (λ (l : List (Slot V)). names_at l js) e ∙ go js inside

@@ -8,6 +8,7 @@ use Rattle.thread_roster.specs.declared.mode.Event.{Event}
 use Rattle.tree_node.specs.Each.{Each, AreDistinct}
 use Rattle.tree_node.proofs.ClassLemmas.{Contains-cons_cases, Contains-head, Contains-tail}
 use Rattle.tree_node.proofs.EachLemmas.{each_in, each_append}
+use Rattle.tree_node.proofs.OrderLemmas.{none as nothing, Each-member}
 use Rattle.thread_roster.specs.declared.mode.Mode.TheVariants as mode
 use Rattle.thread_roster.specs.declared.slot.Occupant.{Occupant}
 use Rattle.thread_roster.specs.Invariant.{IsOrdered}
@@ -15,17 +16,6 @@ use Rattle.thread_roster.specs.Slots.{Slot, AreInside, wakes, wake_by, wake_slot
 use Rattle.thread_roster.proofs.WakeLemmas.{IsAwaitingAt, mode_in, waits_before, never_waits, runs_on}
 
 -- ---- lists in which each stands once
-
-nothing : {X : Type 0} (x : X) → Contains [] x → ⊥
-nothing x (k, below, is) = absurd (omega arith)
-
-pub contained : {X : Type 0} (P : X → Type 0) (xs : List X) (x : X) → Each P xs → Contains xs x → P x
-contained P [] x h c = absurd (nothing x c)
-contained {X} P (y ∷ xs) x h c = go (Contains-cons_cases y x xs c) (λ d. contained P xs x h.1 d)
-  where
-    go : (y ≡ x) ⊎ Contains xs x → (Contains xs x → P x) → P x
-    go (inl e) rest = subst P e h.0
-    go (inr d) rest = rest d
 
 distinct_append : (xs ys : List ℕ) → AreDistinct xs → AreDistinct ys → ((x : ℕ) → Contains xs x → Contains ys x → ⊥) → AreDistinct (xs ++ ys)
 distinct_append [] ys h k apart = k
@@ -75,7 +65,7 @@ stays i (y ∷ xs) x c differs = go (i == y) refl (λ d. stays i xs x d differs)
     go false e rest (inr d) = Contains-tail y x (without_slot i xs) (rest d)
 
 pub each_without : (P : ℕ → Type 0) (i : ℕ) (xs : List ℕ) → Each P xs → Each P (without_slot i xs)
-each_without P i xs h = each_in P (without_slot i xs) (λ x c. contained P xs x h (within i xs x c).0)
+each_without P i xs h = each_in P (without_slot i xs) (λ x c. Each-member P xs x h (within i xs x c).0)
 
 distinct_without : (i : ℕ) (xs : List ℕ) → AreDistinct xs → AreDistinct (without_slot i xs)
 distinct_without i [] h = tt
@@ -213,7 +203,7 @@ pub ordered_rotated : {V : Type 0} (slots : List (Slot V)) (queue now : List ℕ
 ordered_rotated {V} slots [] now h turns empty = subst (λ (js : List ℕ). IsOrdered slots js) (sym (empty refl)) h
 ordered_rotated {V} slots (i ∷ rest) now h turns empty =
     subst (λ (js : List ℕ). IsOrdered slots js) (sym (turns i rest refl))
-    (ordered_part slots (i ∷ rest) (rest ++ i ∷ []) h (λ j c. back j (Contains-push_cases rest i j c)) (distinct_push rest i h.once.1 (λ c. contained (λ (j : ℕ). i ≢ j) rest i h.once.0 c refl)))
+    (ordered_part slots (i ∷ rest) (rest ++ i ∷ []) h (λ j c. back j (Contains-push_cases rest i j c)) (distinct_push rest i h.once.1 (λ c. Each-member (λ (j : ℕ). i ≢ j) rest i h.once.0 c refl)))
   where
     back : (j : ℕ) → Contains rest j ⊎ (i ≡ j) → Contains (i ∷ rest) j
     back j (inl c) = Contains-tail i j rest c
@@ -271,7 +261,7 @@ ordered_born {V} slots now queue more new h inside runs e f =
     }))
   where
     out : Contains queue (length slots) → ⊥
-    out c = let below : length slots < length slots = contained (λ (j : ℕ). j < length slots) queue (length slots) inside c in absurd (omega (arith, below))
+    out c = let below : length slots < length slots = Each-member (λ (j : ℕ). j < length slots) queue (length slots) inside c in absurd (omega (arith, below))
 
     past : (l : List (Slot V)) (j : ℕ) (k : Occupant V) → length l ≡ j → slice_get l j ≡ Some (Some k) → ⊥
     past [] j k same s = cc

@@ -8,7 +8,7 @@ use Rattle.thread_roster.specs.Slots.{slot_in, with_slot}
 use Rattle.thread_roster.specs.Row.{in_row, is_in_row}
 use Rattle.thread_roster.proofs.NameLemmas.{is_same, is_other, name_cases}
 
-abbrev Filed : Type 0
+abbrev pub Filed : Type 0
 Filed = List (ThreadName × ℕ)
 
 by_parts : (site num : ℕ) (x : ThreadName) → x.site ≡ site → x.num ≡ num → x ≡ record { site = site; num = num }

@@ -108,11 +108,6 @@ bind_where {V} x f (t ∷ ts) =
     go true m = refl
     go false m = refl
 
--- where nobody stands so, none goes on
-pub same_where : {V : Type 0} (f : Mode → Bool) (ts : List (Entry V)) → Each (λ (t : Entry V). f t.1.1 ≡ false) ts → wake_where f ts ≡ ts
-same_where f [] h = refl
-same_where {V} f (t ∷ ts) h = ap (λ (b : Bool). (t.0, (t.1.0, cond b mode.Runs t.1.1)) ∷ wake_where f ts) h.0 ∙ ap (λ (l : List (Entry V)). t ∷ l) (same_where f ts h.1)
-
 -- ---- the thread that changed
 
 pub value_there : {V : Type 0} (ts : List (Entry V)) (n : ThreadName) (v : V) (m : Mode) (w : V) → value_of equal_thread ts n ≡ Some (v, m) → value_of equal_thread (set_value ts n w) n ≡ Some (w, m)

@@ -1,5 +1,5 @@
 -- What contracts see of slots and queue.
-use Rattle.std.proofs.Common.{arith, ◌≡◌, ◌≢◌, ◌∙◌, sym, ap, refl, subst, ℕ, ◌⊎◌, inl, inr, List, [], ◌∷◌, ◌++◌, Some, None}
+use Rattle.std.proofs.Common.{◌≡◌, ◌≢◌, ◌∙◌, sym, ap, refl, subst, ℕ, ◌⊎◌, inl, inr, List, [], ◌∷◌, ◌++◌, Some, None}
 use Rattle.std.specs.Prelude.{Option, ◌↔◌, slice_set, slice_get, Contains}
 use Rattle.std.proofs.lemmas.List.Elements.{Contains-append_left, Contains-append_right, Contains-append_cases}
 use Rattle.tree_node.specs.declared.names.ThreadName.{ThreadName}
@@ -7,6 +7,7 @@ use Rattle.tree_node.specs.Assoc.{value_of}
 use Rattle.tree_node.specs.Each.{Each, AreDistinct}
 use Rattle.tree_node.specs.State.{equal_thread}
 use Rattle.tree_node.proofs.ClassLemmas.{Contains-cons_cases, Contains-head, Contains-tail}
+use Rattle.tree_node.proofs.OrderLemmas.{none}
 use Rattle.thread_roster.specs.declared.mode.Mode.{Mode}
 use Rattle.thread_roster.specs.declared.mode.Mode.TheVariants as mode
 use Rattle.thread_roster.specs.declared.slot.Occupant.{Occupant}
@@ -15,9 +16,10 @@ use Rattle.thread_roster.specs.Order.{rotated}
 use Rattle.thread_roster.specs.Slots.{Slot, ArePlaced, slot_in, threads_in, name_in, names_at, with_value_in}
 use Rattle.thread_roster.specs.Threads.{Threads, Entry, set_value, IsRunnable, IsOrderOf}
 use Rattle.thread_roster.proofs.SlotLemmas.{found, only_at, placed_there}
-use Rattle.thread_roster.proofs.ConsistencyLemmas.{Places, Waiting, ended_in, ended_set, value_view, no_thread, thread_there, stands_there}
+use Rattle.thread_roster.proofs.ConsistencyLemmas.{Waiting, ended_in, ended_set, value_view, no_thread, thread_there, stands_there}
 use Rattle.thread_roster.proofs.OrderLemmas.{names_put, names_other}
 use Rattle.thread_roster.proofs.BehindLemmas.{is_not_left}
+use Rattle.thread_roster.proofs.TableLemmas.{Filed}
 
 -- the model
 abbrev pub view_of : {V : Type 0} → List (Slot V) → List ℕ → Threads V
@@ -58,29 +60,26 @@ looked_view {V} s slots queue now same view = ap (λ (l : List ThreadName). thre
 
 -- ---- the order and those that can go on
 
-nothing : {X : Type 0} (x : X) → Contains [] x → ⊥
-nothing x (k, below, is) = absurd (omega arith)
-
 -- the thread of a name lives in a slot
 abbrev IsAt : {V : Type 0} → List (Slot V) → ThreadName → ℕ → Type 0
 IsAt {V} slots n j = (h : Occupant V) × (slice_get slots j ≡ Some (Some h)) × (h.name ≡ n)
 
 named_at : {V : Type 0} (slots : List (Slot V)) (n : ThreadName) (js : List ℕ) → Contains (names_at slots js) n → (j : ℕ) × Contains js j × IsAt slots n j
-named_at slots n [] c = absurd (nothing n c)
+named_at slots n [] c = absurd (none n c)
 named_at {V} slots n (j ∷ js) c = go (slice_get slots j) refl (λ d. named_at slots n js d) (Contains-append_cases (name_in (slice_get slots j)) (names_at slots js) n c)
   where
     here : (h : Occupant V) → slice_get slots j ≡ Some (Some h) → (h.name ≡ n) ⊎ Contains [] n → (k : ℕ) × Contains (j ∷ js) k × IsAt slots n k
     here h e (inl is) = (j, Contains-head j js, (h, e, is))
-    here h e (inr d) = absurd (nothing n d)
+    here h e (inr d) = absurd (none n d)
 
     go : (o : Option (Slot V)) → slice_get slots j ≡ o → (Contains (names_at slots js) n → (k : ℕ) × Contains js k × IsAt slots n k) → Contains (name_in o) n ⊎ Contains (names_at slots js) n → (k : ℕ) × Contains (j ∷ js) k × IsAt slots n k
-    go None e rest (inl d) = absurd (nothing n d)
-    go (Some None) e rest (inl d) = absurd (nothing n d)
+    go None e rest (inl d) = absurd (none n d)
+    go (Some None) e rest (inl d) = absurd (none n d)
     go (Some (Some h)) e rest (inl d) = here h e (Contains-cons_cases h.name n [] d)
     go o e rest (inr d) = let r = rest d in (r.0, Contains-tail j r.0 js r.1, r.2)
 
 at_named : {V : Type 0} (slots : List (Slot V)) (n : ThreadName) (i : ℕ) (js : List ℕ) → IsAt slots n i → Contains js i → Contains (names_at slots js) n
-at_named slots n i [] at c = absurd (nothing i c)
+at_named slots n i [] at c = absurd (none i c)
 at_named {V} slots n i (j ∷ js) at c = go (λ d. at_named slots n i js at d) (Contains-cons_cases j i js c)
   where
     here : j ≡ i → name_in (slice_get slots j) ≡ n ∷ []
@@ -90,7 +89,7 @@ at_named {V} slots n i (j ∷ js) at c = go (λ d. at_named slots n i js at d) (
     go rest (inl same) = Contains-append_left (name_in (slice_get slots j)) (names_at slots js) n (subst (λ (l : List ThreadName). Contains l n) (sym (here same)) (Contains-head n []))
     go rest (inr d) = Contains-append_right (name_in (slice_get slots j)) (names_at slots js) n (rest d)
 
-pub order_all : {V : Type 0} (slots : List (Slot V)) (by_name : Places) (queue : List ℕ) (waiting_keys : Waiting) (a b : ℕ) (n : ThreadName) → IsConsistent slots by_name queue waiting_keys a b → IsOrdered slots queue →
+pub order_all : {V : Type 0} (slots : List (Slot V)) (by_name : Filed) (queue : List ℕ) (waiting_keys : Waiting) (a b : ℕ) (n : ThreadName) → IsConsistent slots by_name queue waiting_keys a b → IsOrdered slots queue →
     Contains (names_at slots queue) n ↔ IsRunnable (threads_in slots) n
 order_all {V} slots by_name queue waiting_keys a b n h k = (λ c. goes (named_at slots n queue c), λ r. among (slot_in by_name n) refl r.0 r.1)
   where
@@ -126,5 +125,5 @@ names_once {V} slots slot (j ∷ js) placed once = go (slice_get slots j) refl (
     go (Some None) at rest = rest
     go (Some (Some h)) at rest = (differs h.name (names_at slots js) (apart h at), rest)
 
-pub order_is : {V : Type 0} (slots : List (Slot V)) (by_name : Places) (queue : List ℕ) (waiting_keys : Waiting) (a b : ℕ) → IsConsistent slots by_name queue waiting_keys a b → IsOrdered slots queue → IsOrderOf (threads_in slots) (names_at slots queue)
+pub order_is : {V : Type 0} (slots : List (Slot V)) (by_name : Filed) (queue : List ℕ) (waiting_keys : Waiting) (a b : ℕ) → IsConsistent slots by_name queue waiting_keys a b → IsOrdered slots queue → IsOrderOf (threads_in slots) (names_at slots queue)
 order_is slots by_name queue waiting_keys a b h k = (λ n. order_all slots by_name queue waiting_keys a b n h k, names_once slots (slot_in by_name) queue h.placed k.once)

@@ -1,5 +1,6 @@
 -- What holds of each element of a list.
-use Rattle.std.proofs.Common.{arith, ◌≡◌, subst, ℕ, zero, suc, ◌+◌, ◌<◌, List, [], ◌∷◌, ◌++◌, length, take, get_or, Some}
+use Rattle.std.proofs.Common.{arith, ◌≡◌, subst, ℕ, zero, suc, ◌+◌, ◌<◌, List, [], ◌∷◌, ◌++◌, length, take, get_or, Some, sym, reverse}
+use Rattle.std.proofs.lemmas.List.{reverse-append}
 use Rattle.std.specs.Prelude.{Contains, slice_get}
 use Rattle.tree_node.specs.Each.{Each}
 use Rattle.tree_node.proofs.ClassLemmas.{Contains-head, Contains-tail}
@@ -32,3 +33,12 @@ each_take_more {X} P xs i d inside h g = let e : suc i ≡ i + 1 = omega arith i
     next [] i inside h g = absurd (omega (arith, inside))
     next (x ∷ xs) zero inside h g = (g, tt)
     next (x ∷ xs) (suc i) inside h g = (h.0, next xs i (omega (arith, inside)) h.1 g)
+
+-- what holds of each on two grounds
+pub each_two : {X : Type 0} (P Q R : X → Type 0) → ((x : X) → P x → Q x → R x) → (xs : List X) → Each P xs → Each Q xs → Each R xs
+each_two P Q R f [] h g = tt
+each_two P Q R f (x ∷ xs) h g = (f x h.0 g.0, each_two P Q R f xs h.1 g.1)
+
+pub each_reverse : {X : Type 0} (P : X → Type 0) (xs : List X) → Each P xs → Each P (reverse xs)
+each_reverse P [] h = tt
+each_reverse {X} P (x ∷ xs) h = subst (λ (l : List X). Each P l) (sym (reverse-append (x ∷ []) xs)) (each_append P (reverse xs) (x ∷ []) (each_reverse P xs h.1) (h.0, tt))

@@ -28,7 +28,7 @@ each_of eq same P (y ∷ xs) x h k = go (eq x y) refl h (λ q. each_of eq same P
     go false e q ih = ih q
 
 -- of the part of a flat list that comes from one element
-each_left : {X : Type 0} (P : X → Type 0) (xs ys : List X) → Each P (xs ++ ys) → Each P xs × Each P ys
+pub each_left : {X : Type 0} (P : X → Type 0) (xs ys : List X) → Each P (xs ++ ys) → Each P xs × Each P ys
 each_left P [] ys h = (tt, h)
 each_left P (x ∷ xs) ys h = let both = each_left P xs ys h.1 in ((h.0, both.0), both.1)
 

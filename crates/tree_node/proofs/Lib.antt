@@ -21,3 +21,6 @@ pub mod CompareLaws
 pub mod FrontLemmas
 pub mod LookedLemmas
 pub mod FieldLemmas
+pub mod BoolLemmas
+pub mod ListLemmas
+pub mod ResultLemmas

@@ -7,6 +7,8 @@ use Rattle.tree_node.specs.Order.{IsBelow}
 use Rattle.tree_node.specs.State.{equal_thread}
 use Rattle.tree_node.specs.Store.{equal_var}
 use Rattle.tree_node.proofs.ClassLemmas.{same_name_decides}
+use Rattle.tree_node.specs.declared.names.PortName.{PortName}
+use Rattle.tree_node.specs.Goal.{equal_port}
 
 pub below_trans : (x y z : VarName) → IsBelow x y → IsBelow y z → IsBelow x z
 below_trans x y z (inl h) (inl g) = inl (omega arith)
@@ -28,3 +30,6 @@ differ a b d = go (equal_var a b) refl
 
 pub same_thread_decides : (a b : ThreadName) → Decides (equal_thread a b) (a ≡ b)
 same_thread_decides a b = search rules
+
+pub same_port_decides : (a b : PortName) → Decides (equal_port a b) (a ≡ b)
+same_port_decides a b = search rules

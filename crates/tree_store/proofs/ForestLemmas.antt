@@ -6,11 +6,12 @@ use Rattle.tree_node.specs.declared.node.Node.{Node}
 use Rattle.tree_node.specs.declared.node.Term.{Term}
 use Rattle.tree_node.specs.declared.node.Term.TheVariants as term
 use Rattle.tree_node.specs.Store.{Equation, Store, Same, here, onward, Det, IsClassName, root_of, node_of, IsFree, IsSound}
-use Rattle.tree_node.proofs.ClassLemmas.{Same-trans, Same-sym, Contains-cons_cases, roots_tell_classes}
+use Rattle.tree_node.proofs.ClassLemmas.{Same-trans, Same-sym, Contains-cons_cases, roots_tell_classes, Contains-tail, Same-root, to_root}
 use Rattle.tree_node.proofs.DetLemmas.{node_is_det, det_is_node}
 use Rattle.tree_node.specs.Order.{IsBelow, IsLower}
 use Rattle.tree_store.specs.Forest.{IsForest, IsGrown}
 use Rattle.tree_node.proofs.NameLemmas.{below_not, below_trans}
+use Rattle.tree_node.proofs.SoundLemmas.{root_names_class}
 
 -- no equation of its own leads on to a variable
 abbrev IsEnd : Store → VarName → Type 0
@@ -167,3 +168,21 @@ bound_forest s u w f free low = record {
 pub bound_sound : (s : Store) (u : VarName) (w : Term) → IsForest s → IsSound s → IsFree s u → IsLower w u → IsSound ((u, w) ∷ s)
 bound_sound s u (term.Var v) f sound free low = (sound, apart s u v f free low, inl (free_none s u u f free refl))
 bound_sound s u (term.Node n) f sound free low = (sound, free_none s u u f free refl)
+
+-- ---- before the last equation
+
+pub sound_before : (u : VarName) (w : Term) (s : Store) → IsSound ((u, w) ∷ s) → IsSound s
+sound_before u (term.Var v) s h = h.0
+sound_before u (term.Node n) s h = h.0
+
+pub forest_before : (u : VarName) (w : Term) (s : Store) → IsForest ((u, w) ∷ s) → IsForest s
+forest_before u w s f = record {
+  one = λ x t r a b. f.one x t r (Contains-tail (u, w) (x, t) s a) (Contains-tail (u, w) (x, r) s b);
+  down = λ x t a. f.down x t (Contains-tail (u, w) (x, t) s a);
+}
+
+-- a variable without an equation stands for its class
+pub free_root : (s : Store) (x : VarName) → IsSound s → IsForest s → IsFree s x → root_of s x ≡ x
+free_root s x sound forest free =
+    let none = free_none s x x forest free refl in
+    one_free s (root_of s x) x forest (root_names_class s x sound none).1 free (sym (Same-root (to_root s x)))

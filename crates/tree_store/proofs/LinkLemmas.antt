@@ -8,7 +8,7 @@ use Rattle.tree_node.specs.Store.{equal_var, joined_root}
 use Rattle.std.proofs.lemmas.List.Elements.{Contains-append_cases, Contains-append_left, Contains-append_right}
 use Rattle.tree_node.specs.Each.{Each}
 use Rattle.tree_node.proofs.ClassLemmas.{same_name_decides, same_name_refl, joined_when, joined_same, Contains-cons_cases, Contains-head, Contains-tail}
-use Rattle.tree_node.proofs.EachLemmas.{each_append}
+use Rattle.tree_node.proofs.EachLemmas.{each_append, each_in}
 use Rattle.tree_node.proofs.OrderLemmas.{Each-member}
 use Rattle.tree_store.specs.declared.links.ClassEntry.{ClassEntry}
 use Rattle.tree_store.specs.Links.{ClassEntries, singleton, entry_in, IsRepresentative, weight, total, IsTree, AreClasses, entry_after_union, IsPath, IsRing, visited}
@@ -160,10 +160,6 @@ path_on entry x y z (w ∷ xs) ys h g = (h.0, path_on entry w y z xs ys h.1 g)
 each_all : {P : VarName → Type 0} → ((y : VarName) → P y) → (ys : List VarName) → Each P ys
 each_all f [] = tt
 each_all f (y ∷ ys) = (f y, each_all f ys)
-
-each_from : (P : VarName → Type 0) (ys : List VarName) → ((y : VarName) → Contains ys y → P y) → Each P ys
-each_from P [] f = tt
-each_from P (y ∷ ys) f = (f y (Contains-head y ys), each_from P ys (λ z k. f z (Contains-tail y z ys k)))
 
 -- a variable without an entry is a ring of its own
 pub alone_ring : (x : VarName) → IsRing (λ (y : VarName). y) singleton x []
@@ -488,7 +484,7 @@ classes_after_union root entry x y c w e t tc tw differ apart representatives en
             path = path_on (entry_after_union entry c w e) w c w cs ws
                 (path_moved entry (entry_after_union entry c w e) w c cs c next_top (others c cs apart_child) rc.path)
                 (path_moved entry (entry_after_union entry c w e) c w ws w next_child (others w ws apart_top) rtop.path);
-            first = each_append (λ (v : VarName). w ≢ v) cs (c ∷ ws) (each_from (λ (v : VarName). w ≢ v) cs (λ v k. (apart_child v k).1)) ((λ q. differ (sym q)), rtop.first);
+            first = each_append (λ (v : VarName). w ≢ v) cs (c ∷ ws) (each_in (λ (v : VarName). w ≢ v) cs (λ v k. (apart_child v k).1)) ((λ q. differ (sym q)), rtop.first);
             all = λ v. (into v, from v);
             long = let a = rc.long in let b = rtop.long in let more = length-append cs (c ∷ ws) in
                 let sum : (entry_after_union entry c w e w).size ≡ (entry c).size + (entry w).size = ap (λ (r : ClassEntry). r.size) (above_there entry c w e) in omega (arith, a, b, more, sum);

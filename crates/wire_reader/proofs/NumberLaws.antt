@@ -24,10 +24,7 @@ use Rattle.wire_reader.proofs.IntegerLaws.{message_more, wider}
 use Rattle.wire_reader.proofs.FitsLaws.{each_item, fields_ordered, equations_ordered, message_fits}
 use Rattle.wire_reader.proofs.FitsLaws.{fields_have, variables_have, bundle_has}
 use Rattle.tree_node.proofs.EnvLemmas.{each_more}
-
-each_both : {X : Type 0} (P Q R : X → Type 0) → ((x : X) → P x → Q x → R x) → (xs : List X) → Each P xs → Each Q xs → Each R xs
-each_both P Q R go [] h k = tt
-each_both P Q R go (x ∷ xs) h k = (go x h.0 k.0, each_both P Q R go xs h.1 k.1)
+use Rattle.tree_node.proofs.EachLemmas.{each_two}
 
 -- an integer of the form's width
 abbrev IsOfWidth : Form → ℤ → Type 0
@@ -134,11 +131,11 @@ feature_has form (features.Int z) h k = k
 feature_has form (features.Atom t) h k = text_has t h
 
 vars_have : (xs : List VarName) → FitsVars xs → Each HoldsVar xs → variables.Has xs
-vars_have xs h k = variables_have xs h (each_both FitsVar HoldsVar (λ x. var_name.Has x) var_has xs h.1 k)
+vars_have xs h k = variables_have xs h (each_two FitsVar HoldsVar (λ x. var_name.Has x) var_has xs h.1 k)
 
 -- held, and of the form's width
 fields_both : (form : Form) (fields : List (Feature × VarName)) → Each HoldsField fields → Each (EachInField (IsOfWidth form)) fields → Each (λ x. HoldsField x × EachInField (IsOfWidth form) x) fields
-fields_both form fields k w = each_both HoldsField (EachInField (IsOfWidth form)) (λ x. HoldsField x × EachInField (IsOfWidth form) x) (λ x p q. (p, q)) fields k w
+fields_both form fields k w = each_two HoldsField (EachInField (IsOfWidth form)) (λ x. HoldsField x × EachInField (IsOfWidth form) x) (λ x p q. (p, q)) fields k w
 
 cell_has : (form : Form) (c : CellName) (n : ℕ) → c.at ≡ n → IsSite c.site × (c.at ≤ 64) → HoldsName c.num → IsMobileOr (IsTwo form) n → HasCell form c n
 cell_has form c zero e h k w = (e, name_has c.site c.num h.0 k)
@@ -150,7 +147,7 @@ term_has form (terms.Node (nodes.Int z)) h k w = w
 term_has form (terms.Node (nodes.Atom t)) h k w = text_has t h
 term_has form (terms.Node (nodes.Rec label fields)) h k w = (
   text_has label h.0,
-  fields_have form fields h.1 (each_both FitsField (λ x. HoldsField x × EachInField (IsOfWidth form) x) (λ x. (record_field form).Has x) (λ x p q. (feature_has form x.0 p.0 q.1, var_has x.1 p.1 q.0)) fields h.1.2 (fields_both form fields k w)),
+  fields_have form fields h.1 (each_two FitsField (λ x. HoldsField x × EachInField (IsOfWidth form) x) (λ x. (record_field form).Has x) (λ x p q. (feature_has form x.0 p.0 q.1, var_has x.1 p.1 q.0)) fields h.1.2 (fields_both form fields k w)),
 )
 term_has form (terms.Node (nodes.Proc n c p vars)) h k w =
     (name_has p.site p.num h.0 k.0, (k.1, ((omega (arith, h.1), (omega arith, h.1)), vars_have vars h.2 k.2)))
@@ -158,11 +155,11 @@ term_has form (terms.Node (nodes.Cell c)) h k w = cell_has form c c.at refl h k 
 term_has form (terms.Node (nodes.Port q)) h k w = (w, name_has q.site q.num h k)
 
 equations_both : (form : Form) (es : List Equation) → HoldsBundle es → EachInBundle (IsOfWidth form) (IsTwo form) es → Each (λ e. HoldsEquation e × EachInEquation (IsOfWidth form) (IsTwo form) e) es
-equations_both form es k w = each_both HoldsEquation (EachInEquation (IsOfWidth form) (IsTwo form)) (λ e. HoldsEquation e × EachInEquation (IsOfWidth form) (IsTwo form) e) (λ e p q. (p, q)) es k w
+equations_both form es k w = each_two HoldsEquation (EachInEquation (IsOfWidth form) (IsTwo form)) (λ e. HoldsEquation e × EachInEquation (IsOfWidth form) (IsTwo form) e) (λ e p q. (p, q)) es k w
 
 es_have : (form : Form) (es : List Equation) → FitsBundle es → HoldsBundle es → EachInBundle (IsOfWidth form) (IsTwo form) es → (bundle form).Has es
 es_have form es h k w =
-    bundle_has form es h (each_both FitsEquation (λ e. HoldsEquation e × EachInEquation (IsOfWidth form) (IsTwo form) e) (λ e. (equation form).Has e) (λ e p q. (var_has e.0 p.0 q.0.0, term_has form e.1 p.1 q.0.1 q.1)) es h.1 (equations_both form es k w))
+    bundle_has form es h (each_two FitsEquation (λ e. HoldsEquation e × EachInEquation (IsOfWidth form) (IsTwo form) e) (λ e. (equation form).Has e) (λ e p q. (var_has e.0 p.0 q.0.0, term_has form e.1 p.1 q.0.1 q.1)) es h.1 (equations_both form es k w))
 
 message_has : (form : Form) (m : Msg) → FitsWire m → HoldsNumbers m → EachInMessage (IsOfWidth form) (IsTwo form) m → (message form).Has m
 message_has form (messages.Spawn t c vars es) h k w = (name_has t.site t.num h.0 k.0, (k.1, (vars_have vars h.1 k.2, es_have form es h.2 k.3 w)))

@@ -48,10 +48,10 @@ use Rattle.world_answers.proofs.LeaveLemmas.{Leaves, leaves_none}
 use Rattle.world_answers.proofs.BalanceLemmas.{Balances, came_of}
 use Rattle.world_answers.proofs.BalanceRowLemmas.{still_balances}
 use Rattle.world_answers.proofs.OwedLemmas.{Owes, owes_none}
-use Rattle.world_answers.proofs.PackLemmas.{ReachedAt, whole, packed, came, same_parts, shown_far}
-use Rattle.world_answers.proofs.ReturnLemmas.{returned_waiters, returned_names, returned_from, returned_old, returned_parts, gone_waiters, gone_once}
+use Rattle.world_answers.proofs.PackLemmas.{ReachedAt, whole, packed, came, same_parts}
+use Rattle.world_answers.proofs.ReturnLemmas.{returned_waiters, returned_names, returned_from, returned_old, returned_parts, gone_waiters}
 use Rattle.world_answers.proofs.SayLemmas.{none_sent}
-use Rattle.world_answers.proofs.ShownLemmas.{standing_distinct}
+use Rattle.world_answers.proofs.ShownLemmas.{standing_distinct, shown_threads_real, less_distinct}
 use Rattle.world_answers.proofs.SpotLemmas.{Turned, IsLost, IsNewClaim, comes, claims_from, claims_kept, lost_answer, answer_tells}
 use Rattle.world_answers.proofs.StandLemmas.{EachOfStack-weaker, answer_not}
 use Rattle.tree_node.proofs.AssocLemmas.{value_of-without_key, value_of-without_key-other}
@@ -145,7 +145,7 @@ module _ (p : List Stmt) (i : ℕ) (real : i ≢ 0) (w : World) (ks : List Pick)
   parts : PartsMatch p (here_at (records w.sites)) (eqs w.sites) (records w.sites) (threads (shown v.sites u)) (counters w.sites) v.mail c
   parts = parts_posts p (here_at (records w.sites)) (eqs w.sites) (records w.sites) (threads (shown v.sites u)) (counters w.sites) less.mail c
       (returned_parts p (here_at (records w.sites)) (eqs w.sites) (records w.sites) (counters w.sites) less.mail c w.sites t i real d.site n ground.1 found.0 ground.0 ground.2.0 ground.2.1 threads_are
-      (threads (shown w.sites t)) found.1 (λ o far. refl) (λ l far. shown_far w.sites t l far) names_are r.parts)
+      (threads (shown w.sites t)) found.1 (λ o far. refl) (λ l far. shown_threads_real w.sites t l far) names_are r.parts)
       less.sent [] (none_sent p (eqs w.sites) (records w.sites) (threads (shown v.sites u)) (counters w.sites) c.equations)
 
   pub once_back : AreDistinct (names d.site.threads)
@@ -162,7 +162,7 @@ module _ (p : List Stmt) (i : ℕ) (real : i ≢ 0) (w : World) (ks : List Pick)
     wider = λ y h. subst (λ (b : Records). IsHere b y) (sym (ap (λ (z : Site). z.records) site_is)) h;
     lines = (refl, refl);
     ended = (refl, ap (λ (y : Site). y.ended) site_is);
-    once = (standing_distinct d.site.threads once_back, gone_once t n (j.reached.sums.once 0));
+    once = (standing_distinct d.site.threads once_back, less_distinct t n (j.reached.sums.once 0));
   })
 
   -- ---- the rest

@@ -42,7 +42,7 @@ use Rattle.world_variables.proofs.RegisterLemmas.{MaySend}
 use Rattle.world_cells.proofs.SendLemmas.{each_more, each_part}
 use Rattle.world_answers.specs.Joined.{Joined}
 use Rattle.world_answers.proofs.AskLemmas.{IsAskingRow, shown_at, nobody_asks, from_wait, asks_reached, asks_claims, asks_named, own_waits, once_names}
-use Rattle.world_answers.proofs.HomeLemmas.{Rehomed, rehomed, same_homes, kept_early, early_own, early_other, content_own, content_other, distinct_end}
+use Rattle.world_answers.proofs.HomeLemmas.{Rehomed, rehomed, same_homes, kept_early, early_own, early_other, content_own, content_other, distinct_end, Homes}
 use Rattle.world_answers.proofs.LeaveLemmas.{Leaves, leaves_none}
 use Rattle.thread_roster.proofs.NameLemmas.{name_cases as threads_decide}
 use Rattle.world_answers.proofs.BalanceLemmas.{Balances, none_came}
@@ -52,12 +52,7 @@ use Rattle.world_answers.proofs.PackLemmas.{of_none, whole}
 use Rattle.world_answers.proofs.SayLemmas.{none_sent, request_filled, request_bundle, keepers_may, request_names, content_names}
 use Rattle.world_answers.proofs.SpotLemmas.{IsLetter, IsLost, IsNewClaim, Turned, sends, claims_from, claims_kept, request_claims, request_tells, appended_from, appended_old, appended_new}
 use Rattle.world_answers.proofs.StandLemmas.{request_not}
-
-abbrev Homes : Type 0
-Homes = ℕ → List (CellName × HomeRecord)
-
-abbrev Ports : Type 0
-Ports = ℕ → List (PortName × VarName)
+use Rattle.world_answers.proofs.PortsLemmas.{Ports}
 
 pub away_asks : (c : CellName) → c.at ≢ 0 → is_asking (mode.WaitsFor (Cell c)) ≡ true
 away_asks c far = go (c.at == 0) refl

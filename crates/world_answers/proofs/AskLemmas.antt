@@ -55,8 +55,8 @@ use Rattle.world_cells.proofs.UnitLemmas.{stack_lone}
 use Rattle.world_answers.specs.Joined.{Joined}
 use Rattle.world_answers.proofs.ClaimLemmas.{front_far, front_is, goes_away}
 use Rattle.world_answers.proofs.MoveLemmas.{moves_parts}
-use Rattle.world_answers.proofs.PackLemmas.{ReachedAt, packed, shown_is, shown_far}
-use Rattle.world_answers.proofs.ShownLemmas.{standing_asks, standing_distinct, stands_to}
+use Rattle.world_answers.proofs.PackLemmas.{ReachedAt, packed, shown_is}
+use Rattle.world_answers.proofs.ShownLemmas.{standing_asks, standing_distinct, stands_to, shown_threads_real}
 use Rattle.world_answers.proofs.StandLemmas.{EachOfStack-weaker}
 
 -- ---- what a unit asks for
@@ -133,7 +133,7 @@ module _ (p : List Stmt) (i : ℕ) (real : i ≢ 0) (w : World) (ks : List Pick)
   u = (n, (st, mode.Runs)) ∷ j.transit
 
   pub shown_at : value_of equal_thread (threads (shown w.sites j.transit) i) n ≡ Some (st, mode.Runs)
-  shown_at = ap (λ (ts : Threads). value_of equal_thread ts n) (shown_far w.sites j.transit i real) ∙ stands_to (threads w.sites i) n (st, mode.Runs) at refl
+  shown_at = ap (λ (ts : Threads). value_of equal_thread ts n) (shown_threads_real w.sites j.transit i real) ∙ stands_to (threads w.sites i) n (st, mode.Runs) at refl
 
   -- a thread that can go on at a site waits nowhere for an answer
   pub nobody_asks : (k : ℕ) (b : Awaited) (su : Stack) → IsAsking (threads w.sites) k n b su → ⊥
@@ -169,8 +169,8 @@ module _ (p : List Stmt) (i : ℕ) (real : i ≢ 0) (w : World) (ks : List Pick)
         ∙ ap (λ (ts : Threads). (n, (st, mode.Runs)) ∷ ts) (at_other (threads (shown w.sites j.transit)) i _ 0 (λ e. real (sym e))))
         (at_other (gone_on (threads (shown w.sites j.transit)) i n None) 0 _ i real
         ∙ at_here (threads (shown w.sites j.transit)) i _
-        ∙ ap (λ (ts : Threads). without_key equal_thread ts n) (shown_far w.sites j.transit i real) ∙ sym gone)
-        (λ k far other. at_other (gone_on (threads (shown w.sites j.transit)) i n None) 0 _ k far ∙ at_other (threads (shown w.sites j.transit)) i _ k other ∙ shown_far w.sites j.transit k far)
+        ∙ ap (λ (ts : Threads). without_key equal_thread ts n) (shown_threads_real w.sites j.transit i real) ∙ sym gone)
+        (λ k far other. at_other (gone_on (threads (shown w.sites j.transit)) i n None) 0 _ k far ∙ at_other (threads (shown w.sites j.transit)) i _ k other ∙ shown_threads_real w.sites j.transit k far)
 
     parts_moved : PartsMatch p (here_at (records w.sites)) (eqs w.sites) (records w.sites) (threads (shown (put w.sites i d.site) u)) (counters w.sites) w.mail c
     parts_moved = subst (λ (g : ℕ → Threads). PartsMatch p (here_at (records w.sites)) (eqs w.sites) (records w.sites) g (counters w.sites) w.mail c) same

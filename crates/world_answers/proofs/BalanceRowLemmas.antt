@@ -11,14 +11,13 @@ use Rattle.tree_node.specs.Goal.{equal_cell}
 use Rattle.tree_node.specs.State.{State, equal_thread}
 use Rattle.tree_node.specs.Store.{Equation}
 use Rattle.tree_node.proofs.ClassLemmas.{Contains-cons_cases, Contains-head, Contains-tail}
-use Rattle.tree_node.proofs.NameLemmas.{same_thread_decides}
 use Rattle.kernel_syntax.specs.declared.stmt.Stmt.{Stmt}
 use Rattle.site_message.specs.declared.message.Msg.{Msg}
 use Rattle.site_message.specs.declared.message.Msg.TheVariants as msg
 use Rattle.site_message.specs.declared.message.Sent.{Sent}
 use Rattle.oz_model.proofs.KindLemmas.{cell_cases, equal_cell_decides, cells_differ}
 use Rattle.bind_protocol.proofs.ListLemmas.{there_counted}
-use Rattle.thread_roster.proofs.NameLemmas.{name_cases as threads_decide}
+use Rattle.thread_roster.proofs.NameLemmas.{name_cases as threads_decide, is_other}
 use Rattle.site_model.specs.Site.{EarlyRequest}
 use Rattle.site_model.specs.Transition.{Transition}
 use Rattle.world_model.specs.Claims.{Asking, EndOf, ContentOf, request, server}
@@ -32,16 +31,6 @@ use Rattle.world_answers.proofs.BalanceLemmas.{Vanishes, one_vanishes, away_vani
 use Rattle.world_answers.proofs.OwedLemmas.{only_one}
 
 -- ---- names
-
-thread_same : (a b : ThreadName) → a ≡ b → equal_thread a b ≡ true
-thread_same a b e = (same_thread_decides a b).1 e
-
-threads_differ : (a b : ThreadName) → a ≢ b → equal_thread a b ≡ false
-threads_differ a b far = go (equal_thread a b) refl
-  where
-    go : (x : Bool) → equal_thread a b ≡ x → x ≡ false
-    go true e = absurd (far ((same_thread_decides a b).0 e))
-    go false e = refl
 
 nat_cases : (a b : ℕ) → (a ≡ b) ⊎ (a ≢ b)
 nat_cases a b = go (a == b) refl
@@ -65,7 +54,7 @@ other_thread : (a b : CellName) (th n : ThreadName) → th ≢ n → one_exchang
 other_thread a b th n far = go (equal_cell a b)
   where
     go : (x : Bool) → cond {A = ℕ} x (cond (equal_thread th n) 1 0) 0 ≡ 0
-    go true = ap (λ (y : Bool). cond {A = ℕ} y 1 0) (threads_differ th n far)
+    go true = ap (λ (y : Bool). cond {A = ℕ} y 1 0) (is_other th n far)
     go false = refl
 
 this_cell : (b : CellName) (th n : ThreadName) → one_exchange b th b n ≡ cond (equal_thread th n) 1 0
@@ -77,7 +66,7 @@ away_none l th n b h = first (b.at == 0) (b.at == l) refl h
     first : (x y : Bool) → (b.at == l) ≡ y → (th ≢ n) ⊎ (b.at ≡ l) → cond {A = ℕ} x 0 (cond y 0 (cond (equal_thread th n) 1 0)) ≡ 0
     first true y e h = refl
     first false true e h = refl
-    first false false e (inl far) = ap (λ (z : Bool). cond {A = ℕ} z 1 0) (threads_differ th n far)
+    first false false e (inl far) = ap (λ (z : Bool). cond {A = ℕ} z 1 0) (is_other th n far)
     first false false e (inr same) = let yes : (b.at == l) ≡ true = (nat_decides b.at l).1 same in cc
 
 away_one : (l : ℕ) (th n : ThreadName) (b : CellName) → b.at ≢ 0 → b.at ≢ l → away_exchange l th b n ≡ cond (equal_thread th n) 1 0
@@ -258,7 +247,7 @@ module _ (p : List Stmt) (R : ℕ → ThreadName → Type 0) (w v : Sites) (c : 
           go : (b ≡ e) ⊎ (b ≢ e) → (th ≡ n) ⊎ (th ≢ n) → (count_by (asks_content_for b th) (sent_to to (msg.CellAsk e n i u bundle) ∷ []) ≡ 0) ⊎ ((l : ℕ) × (b.at ≢ l) × R l th)
           go (inl x) (inl y) = inr (i, λ z. away (sym (ap (λ (q : CellName). q.at) x) ∙ z), subst (R i) (sym y) goes)
           go (inr x) y = inl (none (ap (λ (q : Bool). cond {A = ℕ} (cond q (equal_thread th n) false) 1 0) (cells_differ b e x)))
-          go (inl x) (inr y) = inl (none (both (equal_cell b e) (threads_differ th n y)))
+          go (inl x) (inr y) = inl (none (both (equal_cell b e) (is_other th n y)))
             where
               both : (q : Bool) → equal_thread th n ≡ false → cond {A = ℕ} (cond q (equal_thread th n) false) 1 0 ≡ 0
               both true f = ap (λ (z : Bool). cond {A = ℕ} z 1 0) f
@@ -353,7 +342,7 @@ module _ (p : List Stmt) (R : ℕ → ThreadName → Type 0) (w v : Sites) (c : 
 
             go : (x : Bool) → (r.asking == i) ≡ x → (th ≡ r.thread) ⊎ (th ≢ r.thread) → (cond x 0 (cond (equal_thread th r.thread) 1 0) ≡ away_exchange l th b r.thread) ⊎ Goes l th
             go true e q = inl (sym zero_is)
-            go false e (inr other) = inl (ap (λ (y : Bool). cond {A = ℕ} y 1 0) (threads_differ th r.thread other) ∙ sym zero_is)
+            go false e (inr other) = inl (ap (λ (y : Bool). cond {A = ℕ} y 1 0) (is_other th r.thread other) ∙ sym zero_is)
             go false e (inl q) = inr (r.asking, λ z. let yes : (r.asking == i) ≡ true = (nat_decides r.asking i).1 (z ∙ sym same ∙ home) in cc, subst (R r.asking) (sym q) (goes r h))
 
         elsewhere : (l : ℕ) (th : ThreadName) → b.at ≢ l → (r : EarlyRequest) → Contains rs r → (answer_one th r ≡ away_exchange l th b r.thread) ⊎ Goes l th
@@ -364,7 +353,7 @@ module _ (p : List Stmt) (R : ℕ → ThreadName → Type 0) (w v : Sites) (c : 
 
             go : (x : Bool) → (r.asking == i) ≡ x → (th ≡ r.thread) ⊎ (th ≢ r.thread) → (cond x 0 (cond (equal_thread th r.thread) 1 0) ≡ away_exchange l th b r.thread) ⊎ Goes l th
             go false e q = inl (sym one_is)
-            go true e (inr other) = inl (sym (one_is ∙ ap (λ (y : Bool). cond {A = ℕ} y 1 0) (threads_differ th r.thread other)))
+            go true e (inr other) = inl (sym (one_is ∙ ap (λ (y : Bool). cond {A = ℕ} y 1 0) (is_other th r.thread other)))
             go true e (inl q) = inr (r.asking, λ z. differs (home ∙ sym ((nat_decides r.asking i).0 e) ∙ z), subst (R r.asking) (sym q) (goes r h))
 
         answered : (l : ℕ) (th : ThreadName) → (b.at ≡ l) ⊎ (b.at ≢ l) → Answered l th

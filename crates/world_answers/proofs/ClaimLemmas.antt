@@ -34,7 +34,7 @@ front_far ts n o v other = go (equal_thread n o) refl
     go true e = absurd (other ((same_thread_decides n o).0 e))
     go false e = refl
 
-some_same : (v u : ThreadState) → Some v ≡ Some u → v ≡ u
+pub some_same : (v u : ThreadState) → Some v ≡ Some u → v ≡ u
 some_same v u e = cc
 
 pub front_is : (ts : Threads) (n o : ThreadName) (v u : ThreadState) → value_of equal_thread ((n, v) ∷ ts) o ≡ Some u → ((o ≡ n) × (u ≡ v)) ⊎ ((n ≢ o) × (value_of equal_thread ts o ≡ Some u))

@@ -35,8 +35,7 @@ use Rattle.world_model.proofs.PutLemmas.{nat_decides}
 use Rattle.world_variables.proofs.QuietLemmas.{waits}
 use Rattle.world_answers.specs.Joined.{Joined}
 use Rattle.world_answers.proofs.OwnJoinLemmas.{unlisted}
-use Rattle.world_answers.proofs.PackLemmas.{shown_far}
-use Rattle.world_answers.proofs.ShownLemmas.{stands_from}
+use Rattle.world_answers.proofs.ShownLemmas.{stands_from, shown_threads_real}
 use Rattle.world_cells.proofs.CellFitLemmas.{nobody_waits}
 use Rattle.tree_node.proofs.ClassLemmas.{Contains-head}
 use Rattle.world_variables.proofs.StartLemmas.{start_thread}
@@ -153,11 +152,11 @@ rests p n limit j f some inside runs r q = quiet_rests p (eqs f) (records f) (th
 
     runs_not : (i : ℕ) (m : ThreadName) (st : Stack) → value_of equal_thread (shown f r.transit i).threads m ≡ Some (st, Runs) → (b : Bool) → (i == 0) ≡ b → ⊥
     runs_not i m st h true e = away m (st, Runs) (subst (λ (k : ℕ). value_of equal_thread (shown f r.transit k).threads m ≡ Some (st, Runs)) ((nat_decides i 0).0 e) h)
-    runs_not i m st h false e = stands i m st (stands_from (f i).threads m (st, Runs) (ap (λ (ts : Threads). value_of equal_thread ts m) (sym (shown_far f r.transit i (far i e))) ∙ h)).0 (in_or i n)
+    runs_not i m st h false e = stands i m st (stands_from (f i).threads m (st, Runs) (ap (λ (ts : Threads). value_of equal_thread ts m) (sym (shown_threads_real f r.transit i (far i e))) ∙ h)).0 (in_or i n)
 
     waits_not : (i : ℕ) (m : ThreadName) (st : Stack) (a : Awaited) → value_of equal_thread (shown f r.transit i).threads m ≡ Some (st, WaitsFor a) → (b : Bool) → (i == 0) ≡ b → ⊥
     waits_not i m st a h true e = away m (st, WaitsFor a) (subst (λ (k : ℕ). value_of equal_thread (shown f r.transit k).threads m ≡ Some (st, WaitsFor a)) ((nat_decides i 0).0 e) h)
     waits_not i m st (Cell d) h false e = nobody_waits (shown_world (world_of j f) r.transit) r.reached.centre r.reached.cells (no_mail (world_of j f).mail none) i m st d h
     waits_not i m st (Port s) h false e =
-        let g = stands_from (f i).threads m (st, WaitsFor (Port s)) (ap (λ (ts : Threads). value_of equal_thread ts m) (sym (shown_far f r.transit i (far i e))) ∙ h) in
+        let g = stands_from (f i).threads m (st, WaitsFor (Port s)) (ap (λ (ts : Threads). value_of equal_thread ts m) (sym (shown_threads_real f r.transit i (far i e))) ∙ h) in
         let both : true ≡ false = g.1 in cc

@@ -9,7 +9,6 @@ use Rattle.tree_node.specs.declared.names.NameKind.{NameKind}
 use Rattle.tree_node.specs.declared.node.Term.{Term}
 use Rattle.tree_node.specs.Order.{site_of}
 use Rattle.tree_node.specs.State.{Stack}
-use Rattle.tree_node.specs.Store.{Equation}
 use Rattle.kernel_syntax.specs.declared.stmt.Stmt.{Stmt}
 use Rattle.site_message.specs.declared.message.Msg.{Msg}
 use Rattle.site_message.specs.declared.message.Msg.TheVariants as msg
@@ -23,8 +22,8 @@ use Rattle.site_model.specs.Messages.{with_thread, bind_request_as, message_row,
 use Rattle.site_model.specs.Site.{Site, Counters, ThreadState, cell_record, thread_state}
 use Rattle.site_model.specs.Transition.{Transition, without_output, with_messages}
 use Rattle.site_model.specs.Unit.{counters_after, after_cell, after_effect, birth_row, placement, with_fresh_names}
-use Rattle.site_model.specs.Variables.{own_binds, opening, with_known_equation, with_known_equations}
-use Rattle.site_model.proofs.FrameLemmas.{told_counters}
+use Rattle.site_model.specs.Variables.{own_binds, opening}
+use Rattle.site_model.proofs.FrameLemmas.{told_counters, told_all_counters, binds_counters}
 use Rattle.world_model.specs.Names.{IsMade}
 use Rattle.world_model.specs.World.{Sites, put, counters}
 use Rattle.world_model.proofs.CellLemmas.{request_only}
@@ -44,10 +43,6 @@ pub kinds_grow : (c d : Counters) (kinds : List NameKind) → d ≡ counters_aft
 kinds_grow c d kinds e x h = subst (λ (m : Counters). IsBelowCounter m x) (sym e) (all_more c kinds x h)
 
 -- ---- units
-
-binds_counters : (limit : ℕ) (es : List Equation) (s : Site) → (own_binds limit es s).site.counters ≡ s.counters
-binds_counters limit [] s = refl
-binds_counters limit (e ∷ es) s = binds_counters limit es s
 
 cell_counters : (ch : CellChange) (s : Site) → (after_cell ch s).counters ≡ s.counters
 cell_counters Stays s = refl
@@ -73,10 +68,6 @@ rows_counted p n limit th s st d (Stepped kinds fresh bind born known is) x h = 
     (all_more s.counters kinds x h))
 
 -- ---- messages
-
-told_all_counters : (es : List Equation) (s : Site) → (with_known_equations s es).counters ≡ s.counters
-told_all_counters [] s = refl
-told_all_counters (e ∷ es) s = told_all_counters es (with_known_equation s e.0 e.1) ∙ told_counters s e.0 e.1
 
 pub opens_counters : (m : Msg) (s : Site) → (opening m s).site.counters ≡ s.counters
 opens_counters m s = told_all_counters (message_bundle m) s

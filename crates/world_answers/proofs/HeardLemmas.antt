@@ -6,9 +6,8 @@ use Rattle.tree_node.specs.declared.names.CellName.{CellName}
 use Rattle.tree_node.specs.declared.names.ThreadName.{ThreadName}
 use Rattle.tree_node.specs.declared.names.CodeId.{CodeId}
 use Rattle.tree_node.specs.declared.node.Term.{Term}
-use Rattle.tree_node.specs.Assoc.{value_of}
 use Rattle.tree_node.specs.Each.{AreDistinct}
-use Rattle.tree_node.specs.State.{Stack, equal_thread}
+use Rattle.tree_node.specs.State.{Stack}
 use Rattle.tree_node.specs.Store.{Store, Equation}
 use Rattle.tree_node.proofs.ClassLemmas.{Contains-head, Contains-tail}
 use Rattle.kernel_syntax.specs.declared.stmt.Stmt.{Stmt}
@@ -17,18 +16,15 @@ use Rattle.site_message.specs.declared.message.Msg.TheVariants as msg
 use Rattle.oz_model.specs.Answers.{IsPartOf}
 use Rattle.bind_protocol.specs.Records.{is_own, knowledge}
 use Rattle.thread_roster.specs.declared.mode.Awaited.{Awaited}
-use Rattle.thread_roster.specs.declared.mode.Mode.{Mode}
 use Rattle.thread_roster.specs.declared.mode.Mode.TheVariants as mode
-use Rattle.thread_roster.specs.Binds.{goes_on}
-use Rattle.thread_roster.specs.Threads.{wake_where}
 use Rattle.site_model.specs.Bundle.{message_bundle}
 use Rattle.site_model.specs.Cells.{effect_here, exchange_stack, after_exchange, after_exchange_as, content_after_exchange, serving}
 use Rattle.site_model.specs.Fit.{CanTake}
 use Rattle.site_model.specs.Messages.{bind_request_as, message_row, reception}
-use Rattle.site_model.specs.Site.{Site, Threads, ThreadState, cell_record, thread_state}
+use Rattle.site_model.specs.Site.{Site, ThreadState, cell_record, thread_state}
 use Rattle.site_model.specs.Variables.{with_known_equation, with_known_equation_as, with_known_equations, opening}
 use Rattle.world_model.specs.Shown.{is_asking}
-use Rattle.world_model.proofs.KeyLemmas.{woken_old}
+use Rattle.world_model.proofs.AbsentLemmas.{told_all_none}
 use Rattle.world_variables.specs.Sums.{names}
 use Rattle.world_variables.proofs.SumLemmas.{told_all_sums, serves_names}
 use Rattle.world_cells.specs.Standing.{IsStanding}
@@ -90,28 +86,6 @@ pub heard_grows : (p : List Stmt) (limit : ℕ) (m : Msg) (s : Site) → IsStand
 heard_grows p limit m s h x c = row_grows p limit m (opening m s).site h x (opens_grow m s x c)
 
 -- ---- who is not there is not there afterwards
-
-woken_none : (f : Mode → Bool) (ts : Threads) (n : ThreadName) → value_of equal_thread ts n ≡ None → value_of equal_thread (wake_where f ts) n ≡ None
-woken_none f ts n e = go (value_of equal_thread (wake_where f ts) n) refl
-  where
-    go : (o : Option ThreadState) → value_of equal_thread (wake_where f ts) n ≡ o → value_of equal_thread (wake_where f ts) n ≡ None
-    go None q = q
-    go (Some v) q =
-        let old = woken_old f ts n v.0 v.1 q in
-        let both : ◌≡◌ {A = Option ThreadState} None (Some (v.0, old.0)) = sym e ∙ old.1 in cc
-
-told_none : (s : Site) (x : VarName) (t : Term) (n : ThreadName) → thread_state s n ≡ None → thread_state (with_known_equation s x t) n ≡ None
-told_none s x t n e = go (is_own s.records x) (knowledge s.records x)
-  where
-    go : (b : Bool) (o : Option (Option Term)) → thread_state (with_known_equation_as b o s x t) n ≡ None
-    go true o = e
-    go false None = woken_none (goes_on ((x, t) ∷ s.equations) x) s.threads n e
-    go false (Some None) = woken_none (goes_on ((x, t) ∷ s.equations) x) s.threads n e
-    go false (Some (Some r)) = e
-
-pub told_all_none : (es : List Equation) (s : Site) (n : ThreadName) → thread_state s n ≡ None → thread_state (with_known_equations s es) n ≡ None
-told_all_none [] s n e = e
-told_all_none (q ∷ es) s n e = told_all_none es (with_known_equation s q.0 q.1) n (told_none s q.0 q.1 n e)
 
 -- a Spawn's thread is not there, after its bundle is known
 spawn_none : (m : Msg) (s : Site) → CanTake s m → (n : ThreadName) (code : CodeId) (vars : List VarName) (bundle : List Equation) → m ≡ msg.Spawn n code vars bundle → thread_state (opening m s).site n ≡ None

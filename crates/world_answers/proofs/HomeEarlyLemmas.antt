@@ -38,9 +38,9 @@ use Rattle.world_answers.proofs.LeaveLemmas.{Leaves, leaves_none, leaves_then, l
 use Rattle.world_answers.specs.Balance.{answers_to, exchanges_by}
 use Rattle.world_answers.proofs.BalanceLemmas.{exchanges_append}
 use Rattle.world_answers.proofs.OwedLemmas.{Owes, Nobody, owes_then, owes_none, count_append}
-use Rattle.world_answers.proofs.PackLemmas.{ReachedAt, whole, packed, same_parts, shown_is, shown_far}
+use Rattle.world_answers.proofs.PackLemmas.{ReachedAt, whole, packed, same_parts, shown_is}
 use Rattle.world_answers.proofs.SayLemmas.{none_sent}
-use Rattle.world_answers.proofs.ShownLemmas.{standing_distinct}
+use Rattle.world_answers.proofs.ShownLemmas.{standing_distinct, shown_threads_real}
 
 -- ---- only what a home keeps changes
 
@@ -63,7 +63,7 @@ module _ (p : List Stmt) (i : ℕ) (real : i ≢ 0) (w : World) (ks : List Pick)
     parts = same_parts p w i d_kept j.transit c refl refl refl
         (parts_posts p (here_at (records w.sites)) (eqs w.sites) (records w.sites) (threads (shown v_kept.sites j.transit)) (counters w.sites) w.mail c
         (subst (λ (g : ℕ → Threads). PartsMatch p (here_at (records w.sites)) (eqs w.sites) (records w.sites) g (counters w.sites) w.mail c)
-        (shown_is w.sites j.transit i d_kept.site (threads (shown w.sites j.transit)) real refl (shown_far w.sites j.transit i real) (λ k far other. shown_far w.sites j.transit k far)) j.reached.parts)
+        (shown_is w.sites j.transit i d_kept.site (threads (shown w.sites j.transit)) real refl (shown_threads_real w.sites j.transit i real) (λ k far other. shown_threads_real w.sites j.transit k far)) j.reached.parts)
         w.sent [] (none_sent p (eqs w.sites) (records w.sites) (threads (shown v_kept.sites j.transit)) (counters w.sites) c.equations));
     still = record { cell_records = refl; managers = refl; site = refl; silent = tt };
     cells = refl;

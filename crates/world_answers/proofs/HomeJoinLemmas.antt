@@ -46,9 +46,6 @@ use Rattle.world_answers.proofs.PackLemmas.{whole, came}
 use Rattle.world_answers.proofs.SpotLemmas.{relisted, IsLost, IsNewClaim, comes, claims_from, claims_kept, lost_request, lost_told, request_tells, appended_from, appended_old, appended_new}
 use Rattle.world_answers.proofs.HomeEarlyLemmas.{serving_kept, kept_told_from, kept_told_old, ServedAll, shorter, shorter_here, shorter_there, served_all}
 
-abbrev Homes : Type 0
-Homes = ℕ → List (CellName × HomeRecord)
-
 -- the requests that are kept are these
 subst_claims : (p : List Stmt) (es : ℕ → Store) (waits : Waiting) (mail : Mail) (early now : CellName → List EarlyRequest) (t : Threads) → ((y : CellName) → now y ≡ early y) → AskingMatch p es waits (IsClaim mail early) t → AskingMatch p es waits (IsClaim mail now) t
 subst_claims p es waits mail early now t same m = record {

@@ -18,12 +18,10 @@ use Rattle.world_model.specs.Keepers.{HomesMatch, IsTold, homes, content_at, ear
 use Rattle.world_model.specs.Names.{IsHere}
 use Rattle.world_model.specs.World.{Sites, Mail, put}
 use Rattle.world_model.proofs.PutLemmas.{nat_decides, at_all, at_here}
+use Rattle.world_model.proofs.MobileLemmas.{Cells}
 
-abbrev Homes : Type 0
+abbrev pub Homes : Type 0
 Homes = ℕ → List (CellName × HomeRecord)
-
-abbrev Cells : Type 0
-Cells = List (CellName × VarName)
 
 -- ---- tables
 

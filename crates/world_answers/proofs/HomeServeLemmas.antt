@@ -59,11 +59,11 @@ use Rattle.world_answers.proofs.LeaveLemmas.{Leaves}
 use Rattle.world_answers.specs.AnswerCounts.{exchange_one, placed_exchanges}
 use Rattle.world_answers.specs.Balance.{answers_to, of_exchange, exchanges_by}
 use Rattle.world_answers.proofs.OwedLemmas.{Owes, Nobody, owes_answer, owes_none}
-use Rattle.world_answers.proofs.PackLemmas.{ReachedAt, whole, shown_far}
-use Rattle.world_answers.proofs.ReturnLemmas.{returned_waiters, returned_names, returned_from, returned_old, returned_parts, gone_waiters, gone_once}
+use Rattle.world_answers.proofs.PackLemmas.{ReachedAt, whole}
+use Rattle.world_answers.proofs.ReturnLemmas.{returned_waiters, returned_names, returned_from, returned_old, returned_parts, gone_waiters}
 use Rattle.world_answers.proofs.SayLemmas.{none_sent}
 use Rattle.world_answers.proofs.ServeLemmas.{away_threads, away_names, away_may, away_reached, away_asking}
-use Rattle.world_answers.proofs.ShownLemmas.{standing_distinct}
+use Rattle.world_answers.proofs.ShownLemmas.{standing_distinct, shown_threads_real, less_distinct}
 use Rattle.world_answers.proofs.SpotLemmas.{Turned, IsLetter, IsLost, IsNewClaim, sends, claims_from, claims_kept, answer_claims, answer_tells, first_from, first_old}
 use Rattle.world_answers.proofs.StandLemmas.{EachOfStack-weaker}
 
@@ -334,7 +334,7 @@ module _ (p : List Stmt) (limit i : ℕ) (real : i ≢ 0) (w : World) (ks : List
         (none_sent p (eqs w.sites) (at_put (records w.sites) i (w.sites i).records) (threads (shown (put w.sites i d_own.site) u_own)) then_counters (act_next p i real w ks t r 0 o n ground.0 [] away asks.0 on).equations)
         adapt
         (λ a. subst (λ (ts : Threads). SameWaiters (standing s.threads) (standing ts) a) (sym threads_are) (returned_waiters s.threads n ground.0 left (Cell b) waits_here.0 waits_here.1 a))
-        (λ a. gone_waiters t n ground.0 away a) (standing_distinct d_own.site.threads once_own) (gone_once t n (j.reached.sums.once 0))
+        (λ a. gone_waiters t n ground.0 away a) (standing_distinct d_own.site.threads once_own) (less_distinct t n (j.reached.sums.once 0))
       where
         Parts : (ℕ → Threads) → Type 0
         Parts g = PartsMatch p Here (eqs w.sites) (at_put (records w.sites) i (w.sites i).records) g then_counters w.mail (act_next p i real w ks t r 0 o n ground.0 [] away asks.0 on)
@@ -344,7 +344,7 @@ module _ (p : List Stmt) (limit i : ℕ) (real : i ≢ 0) (w : World) (ks : List
             (gone_on (threads (shown w.sites t)) 0 n (Some left))
             (ap (λ (ts : Threads). value_of equal_thread ts n) (at_here (threads (shown w.sites t)) 0 (with_value equal_thread t n (left, mode.Runs))) ∙ with_here equal_thread same_thread_decides t n (left, mode.Runs) (ground.0, mode.Runs) away)
             (λ m other. ap (λ (ts : Threads). value_of equal_thread ts m) (at_here (threads (shown w.sites t)) 0 (with_value equal_thread t n (left, mode.Runs))) ∙ with_there equal_thread same_thread_decides t n m (left, mode.Runs) other)
-            (λ k other. at_other (threads (shown w.sites t)) 0 _ k other ∙ shown_far w.sites t k other) names_left h
+            (λ k other. at_other (threads (shown w.sites t)) 0 _ k other ∙ shown_threads_real w.sites t k other) names_left h
 
     alone : (l : ℕ) (a : Awaited) (su : Stack) → IsAsking (threads w.sites) l n a su → l ≡ i
     alone l a su h = j.asking.alone l i n a (Cell b) su ground.0 h waits_here

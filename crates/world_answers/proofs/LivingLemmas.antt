@@ -20,8 +20,7 @@ use Rattle.world_model.specs.World.{World, Sites, threads}
 use Rattle.world_model.proofs.PutLemmas.{nat_decides}
 use Rattle.world_variables.specs.Sums.{names}
 use Rattle.world_variables.proofs.LivingLemmas.{numbers, all_living}
-use Rattle.world_answers.proofs.PackLemmas.{shown_far}
-use Rattle.world_answers.proofs.ShownLemmas.{stands_from, stands_to}
+use Rattle.world_answers.proofs.ShownLemmas.{stands_from, stands_to, shown_threads_real}
 use Rattle.world_answers.proofs.StandLemmas.{asks_for}
 
 -- what the machine has of a thread of a site
@@ -81,7 +80,7 @@ module _ (p : List Stmt) (n : ℕ) (w : World) (t : Threads) (s : State) (placed
                 record {
                   place = i;
                   is = refl;
-                  at = (v.1, ap (λ (ts : Threads). value_of equal_thread ts o) (shown_far w.sites t i (real i o v e)) ∙ stands_to (w.sites i).threads o v e q ∙ ap (λ (x : Stack). Some (x, v.1)) (ap (λ (x : ThreadState). x.0) same));
+                  at = (v.1, ap (λ (ts : Threads). value_of equal_thread ts o) (shown_threads_real w.sites t i (real i o v e)) ∙ stands_to (w.sites i).threads o v e q ∙ ap (λ (x : Stack). Some (x, v.1)) (ap (λ (x : ThreadState). x.0) same));
                   own = λ z. real i o v e;
                   waits = λ z. absurd (cc);
                 },
@@ -123,7 +122,7 @@ module _ (p : List Stmt) (n : ℕ) (w : World) (t : Threads) (s : State) (placed
               (r.1, (c, told_found t (w.sites r.1).threads o ∙ ap (told_option t o) r.4.0 ∙ rw r.4.1 (ap (λ (x : Option ThreadState). Some (unwrap_or x (r.3, mode.WaitsFor r.2))) away)))
           go false e =
               let far : i ≢ 0 = (λ z. let yes : (i == 0) ≡ true = (nat_decides i 0).1 z in cc) in
-              let r = stands_from (w.sites i).threads o (st, c) (ap (λ (ts : Threads). value_of equal_thread ts o) (sym (shown_far w.sites t i far)) ∙ h) in
+              let r = stands_from (w.sites i).threads o (st, c) (ap (λ (ts : Threads). value_of equal_thread ts o) (sym (shown_threads_real w.sites t i far)) ∙ h) in
               (i, (c, told_found t (w.sites i).threads o ∙ ap (told_option t o) r.0 ∙ rw r.1 refl))
 
       apart_places : (i : ℕ) (o : ThreadName) (st : Stack) → Seen i o st false → i ≡ 0 → ⊥

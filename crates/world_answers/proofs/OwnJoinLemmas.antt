@@ -38,7 +38,7 @@ use Rattle.thread_roster.specs.declared.mode.Awaited.{Awaited}
 use Rattle.thread_roster.specs.declared.mode.Awaited.TheVariants.{Cell}
 use Rattle.thread_roster.specs.declared.mode.Mode.TheVariants as mode
 use Rattle.site_model.specs.Bundle.{bundle_of}
-use Rattle.site_model.specs.Site.{Site, HomeRecord, EarlyRequest, home_record, thread_state}
+use Rattle.site_model.specs.Site.{Site, EarlyRequest, home_record, thread_state}
 use Rattle.site_model.specs.Transition.{Transition}
 use Rattle.site_model.specs.Unit.{next_names, counters_after, with_fresh_names, after_home_cell, after_port, telling_row}
 use Rattle.site_model.specs.Variables.{after_makes}
@@ -63,7 +63,7 @@ use Rattle.world_answers.proofs.ActLemmas.{act_served, act_allowed, act_effect, 
 use Rattle.world_answers.proofs.AskJoinLemmas.{never_lost, ports_same, early_same}
 use Rattle.world_answers.proofs.ClaimLemmas.{asking_alike}
 use Rattle.world_answers.proofs.GrowLemmas.{made_grow, kinds_grow}
-use Rattle.world_answers.proofs.HomeLemmas.{Rehomed, rehomed, same_homes, kept_made, kept_told, kept_exchange, content_other, early_own, early_other}
+use Rattle.world_answers.proofs.HomeLemmas.{Rehomed, rehomed, same_homes, kept_made, kept_told, kept_exchange, content_other, early_own, early_other, Homes}
 use Rattle.world_answers.proofs.KeptLemmas.{IsQuiet}
 use Rattle.world_answers.specs.AnswerCounts.{asks_content, tells_content}
 use Rattle.world_answers.specs.Balance.{of_exchange, exchanges_by}
@@ -71,17 +71,11 @@ use Rattle.world_answers.proofs.BalanceLemmas.{Balances, none_came}
 use Rattle.world_answers.proofs.BalanceRowLemmas.{still_balances, exchange_balances}
 use Rattle.world_answers.proofs.OwedLemmas.{TellsCell, tells_cell}
 use Rattle.world_answers.proofs.OwnLemmas.{own_found, own_site, own_row, own_kept, own_reached, own_once, own_waiters, own_names, cell_ports, port_homes, tells}
-use Rattle.world_answers.proofs.PortsLemmas.{ended_at, port_kept, opened_here, opened_there, moved_here, moved_there}
+use Rattle.world_answers.proofs.PortsLemmas.{ended_at, port_kept, opened_here, opened_there, moved_here, moved_there, Ports}
 use Rattle.world_answers.proofs.PackLemmas.{ReachedAt, whole}
 use Rattle.world_answers.proofs.SayLemmas.{none_sent, keepers_may, content_names}
 use Rattle.world_answers.proofs.SpotLemmas.{Turned, IsLetter, IsLost, IsNewClaim, sends, stays, claims_from, claims_kept, relisted, tell_claims}
 use Rattle.world_answers.proofs.StandLemmas.{EachOfStack-weaker, here_wider}
-
-abbrev Homes : Type 0
-Homes = ℕ → List (CellName × HomeRecord)
-
-abbrev Ports : Type 0
-Ports = ℕ → List (PortName × VarName)
 
 -- ---- a cell that is made was in no request
 

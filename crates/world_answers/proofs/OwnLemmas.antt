@@ -55,8 +55,8 @@ use Rattle.world_answers.proofs.KeptLemmas.{IsQuiet, old_end_of, old_content_of,
 use Rattle.world_answers.proofs.LeaveLemmas.{Leaves}
 use Rattle.world_answers.specs.AnswerCounts.{cell_one, placed_cells}
 use Rattle.world_answers.proofs.OwedLemmas.{Owes, Nobody, tells_cell, owes_cell}
-use Rattle.world_answers.proofs.PackLemmas.{ReachedAt, shown_is, shown_far}
-use Rattle.world_answers.proofs.ShownLemmas.{standing_with, standing_distinct, stands_to}
+use Rattle.world_answers.proofs.PackLemmas.{ReachedAt, shown_is}
+use Rattle.world_answers.proofs.ShownLemmas.{standing_with, standing_distinct, stands_to, shown_threads_real}
 use Rattle.world_answers.proofs.StandLemmas.{EachOfStack-weaker, here_wider}
 
 -- ---- what stays
@@ -291,8 +291,8 @@ module _ (p : List Stmt) (limit i : ℕ) (real : i ≢ 0) (w : World) (ks : List
         where
           same : ◌≡◌ {A = ℕ → Threads} (gone_on (threads (shown w.sites j.transit)) i n (Some left)) (threads (shown (put w.sites i own_row.site) j.transit))
           same = shown_is w.sites j.transit i own_row.site (gone_on (threads (shown w.sites j.transit)) i n (Some left)) real (at_other (threads (shown w.sites j.transit)) i _ 0 (λ z. real (sym z)))
-              (at_here (threads (shown w.sites j.transit)) i _ ∙ ap (λ (ts : Threads). with_value equal_thread ts n (left, mode.Runs)) (shown_far w.sites j.transit i real) ∙ sym stood)
-              (λ k far other. at_other (threads (shown w.sites j.transit)) i _ k other ∙ shown_far w.sites j.transit k far)
+              (at_here (threads (shown w.sites j.transit)) i _ ∙ ap (λ (ts : Threads). with_value equal_thread ts n (left, mode.Runs)) (shown_threads_real w.sites j.transit i real) ∙ sym stood)
+              (λ k far other. at_other (threads (shown w.sites j.transit)) i _ k other ∙ shown_threads_real w.sites j.transit k far)
 
           Parts : (ℕ → Threads) → Type 0
           Parts g = PartsMatch p here (eqs w.sites) (at_put (records w.sites) i (after_makes (records w.sites i) (vars_among fresh))) g (at_put (counters w.sites) i (counters_after (counters w.sites i) kinds)) w.mail (act_next p i real w ks j.transit j.reached i i n st kinds own_found need on)

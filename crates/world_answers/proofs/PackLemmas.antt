@@ -38,7 +38,7 @@ use Rattle.world_cells.proofs.QueueLemmas.{SameWaiters, queue_same}
 use Rattle.world_cells.proofs.TallyLemmas.{IsOfNone}
 use Rattle.world_cells.proofs.UnitCellRowLemmas.{nothing_match, gone_match}
 use Rattle.world_answers.proofs.JoinLemmas.{shown_acts}
-use Rattle.world_answers.proofs.ShownLemmas.{shown_real}
+use Rattle.world_answers.proofs.ShownLemmas.{shown_real, shown_threads_real}
 use Rattle.world_answers.proofs.ViewLemmas.{standing_deed}
 
 -- ---- tables of threads
@@ -57,9 +57,6 @@ shown_is f u i s g real zero own far = search (rules, shown_by f u i s g real ze
 
 pub shown_zero : (f : Sites) (u : Threads) → (shown f u 0).threads ≡ u
 shown_zero f u = refl
-
-pub shown_far : (f : Sites) (u : Threads) (k : ℕ) → k ≢ 0 → (shown f u k).threads ≡ standing (f k).threads
-shown_far f u k far = ap (λ (s : Site). s.threads) (shown_real f u k far)
 
 -- the parts, in the form that is wanted
 pub to_shown : (p : List Stmt) (here : ℕ → Name → Type 0) (f : Sites) (i : ℕ) (s : Site) (u : Threads) (g : ℕ → Threads) (mail : Mail) (z : State) → ◌≡◌ {A = ℕ → Threads} g (threads (shown (put f i s) u)) →
@@ -93,7 +90,7 @@ transit_match w t u c same x = record { queues = λ k b. queues k b (k == 0) ref
         subst (λ (j : ℕ). IsQueue (cell_record_in (cell_records w.sites j) b) (shown w.sites u j).threads b) (sym at) (queue_same _ _ t u b refl refl (same (Cell b)) (x.queues 0 b))
     queues k b false e =
         let far : k ≢ 0 = (λ h. let yes : (k == 0) ≡ true = (nat_decides k 0).1 h in cc) in
-        subst (λ (ts : Threads). IsQueue (cell_record_in (cell_records w.sites k) b) ts b) (shown_far w.sites t k far ∙ sym (shown_far w.sites u k far)) (x.queues k b)
+        subst (λ (ts : Threads). IsQueue (cell_record_in (cell_records w.sites k) b) ts b) (shown_threads_real w.sites t k far ∙ sym (shown_threads_real w.sites u k far)) (x.queues k b)
 
 transit_sums : (w : World) (t u : Threads) (lines : List (List ℕ)) (c : State) → AreDistinct (names u) → Sums (shown w.sites t) lines c → Sums (shown w.sites u) lines c
 transit_sums w t u lines c once h = record { printed = h.printed; all_ended = h.all_ended; once = λ k. go k (k == 0) refl }
@@ -102,7 +99,7 @@ transit_sums w t u lines c once h = record { printed = h.printed; all_ended = h.
     go k true e = subst (λ (j : ℕ). AreDistinct (names (shown w.sites u j).threads)) (sym ((nat_decides k 0).0 e)) once
     go k false e =
         let far : k ≢ 0 = (λ z. let yes : (k == 0) ≡ true = (nat_decides k 0).1 z in cc) in
-        subst (λ (ts : Threads). AreDistinct (names ts)) (shown_far w.sites t k far ∙ sym (shown_far w.sites u k far)) (h.once k)
+        subst (λ (ts : Threads). AreDistinct (names ts)) (shown_threads_real w.sites t k far ∙ sym (shown_threads_real w.sites u k far)) (h.once k)
 
 -- ---- the whole
 

@@ -9,7 +9,7 @@ use Rattle.tree_node.specs.declared.names.PortName.{PortName}
 use Rattle.tree_node.specs.Assoc.{value_of, with_value}
 use Rattle.tree_node.specs.Goal.{equal_port}
 use Rattle.tree_node.proofs.AssocLemmas.{value_of-with_value, value_of-with_value-other, value_of-append, value_of-append-other}
-use Rattle.oz_model.proofs.KindLemmas.{equal_port_decides}
+use Rattle.tree_node.proofs.NameLemmas.{same_port_decides}
 use Rattle.bind_protocol.specs.Records.{Records}
 use Rattle.site_model.specs.Site.{Site}
 use Rattle.world_model.specs.Keepers.{PortsMatch, ports, end_at}
@@ -17,23 +17,23 @@ use Rattle.world_model.specs.Names.{IsHere}
 use Rattle.world_model.specs.World.{Sites, put}
 use Rattle.world_model.proofs.PutLemmas.{nat_decides, at_all, at_here}
 
-abbrev Ports : Type 0
+abbrev pub Ports : Type 0
 Ports = ℕ → List (PortName × VarName)
 
 -- ---- tables
 
 port_same : (q : PortName) → equal_port q q ≡ true
-port_same q = (equal_port_decides q q).1 refl
+port_same q = (same_port_decides q q).1 refl
 
 ports_differ : (q r : PortName) → q ≢ r → equal_port q r ≡ false
-ports_differ q r h = false_from_ne_true (equal_port q r) (λ e. h ((equal_port_decides q r).0 e))
+ports_differ q r h = false_from_ne_true (equal_port q r) (λ e. h ((same_port_decides q r).0 e))
 
 pub port_cases : (q r : PortName) → (q ≡ r) ⊎ (q ≢ r)
 port_cases q r = go (equal_port q r) refl
   where
     go : (b : Bool) → equal_port q r ≡ b → (q ≡ r) ⊎ (q ≢ r)
-    go true e = inl ((equal_port_decides q r).0 e)
-    go false e = inr (λ same. let yes : equal_port q r ≡ true = (equal_port_decides q r).1 same in cc)
+    go true e = inl ((same_port_decides q r).0 e)
+    go false e = inr (λ same. let yes : equal_port q r ≡ true = (same_port_decides q r).1 same in cc)
 
 pub end_here : (es : List (PortName × VarName)) (q : PortName) (v : VarName) → lookup (equal_port q) (insert_entry equal_port es q v) ≡ Some v
 end_here [] q v = rw (port_same q) refl
@@ -50,7 +50,7 @@ end_other ((d, u) ∷ es) q r v h = go (equal_port q d) refl (end_other es q r v
     go : (x : Bool) → equal_port q d ≡ x → lookup (equal_port r) (insert_entry equal_port es q v) ≡ lookup (equal_port r) es →
         lookup (equal_port r) (cond (equal_port q d) ((d, v) ∷ es) ((d, u) ∷ insert_entry equal_port es q v)) ≡ lookup (equal_port r) ((d, u) ∷ es)
     go true e ih =
-        let same : q ≡ d = (equal_port_decides q d).0 e in
+        let same : q ≡ d = (same_port_decides q d).0 e in
         let differs : equal_port r d ≡ false = ports_differ r d (λ f. h (f ∙ sym same)) in
         rw (e, differs) refl
     go false e ih = rw e (ap (λ (o : Option VarName). cond (equal_port r d) (Some u) o) ih)
@@ -101,17 +101,17 @@ port_kept ps qs rs more central to q e m change wider there far known = record {
 -- ---- the machine's ports
 
 pub opened_here : (central : List (PortName × VarName)) (q : PortName) (e : VarName) → value_of equal_port central q ≡ None → value_of equal_port (central ++ (q, e) ∷ []) q ≡ Some e
-opened_here central q e none = value_of-append-other equal_port equal_port_decides central ((q, e) ∷ []) q none ∙ rw (port_same q) refl
+opened_here central q e none = value_of-append-other equal_port same_port_decides central ((q, e) ∷ []) q none ∙ rw (port_same q) refl
 
 pub opened_there : (central : List (PortName × VarName)) (q r : PortName) (e : VarName) → q ≢ r → value_of equal_port (central ++ (q, e) ∷ []) r ≡ value_of equal_port central r
 opened_there central q r e other = go (value_of equal_port central r) refl
   where
     go : (o : Option VarName) → value_of equal_port central r ≡ o → value_of equal_port (central ++ (q, e) ∷ []) r ≡ value_of equal_port central r
-    go None h = value_of-append-other equal_port equal_port_decides central ((q, e) ∷ []) r h ∙ rw (ports_differ q r other, h) refl
-    go (Some v) h = value_of-append equal_port equal_port_decides central ((q, e) ∷ []) r v h ∙ sym h
+    go None h = value_of-append-other equal_port same_port_decides central ((q, e) ∷ []) r h ∙ rw (ports_differ q r other, h) refl
+    go (Some v) h = value_of-append equal_port same_port_decides central ((q, e) ∷ []) r v h ∙ sym h
 
 pub moved_here : (central : List (PortName × VarName)) (q : PortName) (old e : VarName) → value_of equal_port central q ≡ Some old → value_of equal_port (with_value equal_port central q e) q ≡ Some e
-moved_here central q old e at = value_of-with_value equal_port equal_port_decides central q e old at
+moved_here central q old e at = value_of-with_value equal_port same_port_decides central q e old at
 
 pub moved_there : (central : List (PortName × VarName)) (q r : PortName) (e : VarName) → q ≢ r → value_of equal_port (with_value equal_port central q e) r ≡ value_of equal_port central r
-moved_there central q r e other = value_of-with_value-other equal_port equal_port_decides central q r e other
+moved_there central q r e other = value_of-with_value-other equal_port same_port_decides central q r e other

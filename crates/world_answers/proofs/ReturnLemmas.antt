@@ -4,7 +4,6 @@ use Rattle.std.specs.Prelude.{Option, ◌≢◌, ◌==◌}
 use Rattle.tree_node.specs.declared.names.ThreadName.{ThreadName}
 use Rattle.tree_node.specs.declared.names.Name.{Name}
 use Rattle.tree_node.specs.Assoc.{value_of, with_value, without_key}
-use Rattle.tree_node.specs.Each.{AreDistinct}
 use Rattle.tree_node.specs.Names.{EachOfStack}
 use Rattle.tree_node.specs.State.{Stack, State, equal_thread}
 use Rattle.tree_node.specs.Store.{Store}
@@ -24,12 +23,11 @@ use Rattle.world_model.proofs.KeyLemmas.{with_here, with_there}
 use Rattle.world_model.proofs.PutLemmas.{nat_decides, at_all, at_here, at_other}
 use Rattle.world_variables.specs.Sums.{names}
 use Rattle.world_variables.proofs.PlaceLemmas.{fronted, gone_on}
-use Rattle.world_variables.proofs.SumLemmas.{with_names, goes_once}
+use Rattle.world_variables.proofs.SumLemmas.{with_names}
 use Rattle.world_cells.proofs.QueueLemmas.{SameWaiters, goes_waiters, running_not}
 use Rattle.world_answers.proofs.ClaimLemmas.{front_own, front_far}
 use Rattle.world_answers.proofs.MoveLemmas.{moves_parts, alike_parts}
-use Rattle.world_answers.proofs.PackLemmas.{shown_far}
-use Rattle.world_answers.proofs.ShownLemmas.{standing_found, asks_away}
+use Rattle.world_answers.proofs.ShownLemmas.{standing_found, asks_away, shown_threads_real}
 
 -- the threads of a site where this one, which waited for an answer, can go on with this stack
 module _ (ts : Threads) (n : ThreadName) (st q : Stack) (a : Awaited) (at : value_of equal_thread ts n ≡ Some (st, mode.WaitsFor a)) (asks : is_asking (mode.WaitsFor a) ≡ true) where
@@ -122,17 +120,14 @@ module _ (p : List Stmt) (here : ℕ → Name → Type 0) (eqs : ℕ → Store) 
           go false e true h =
               let place : k ≡ i = (nat_decides k i).0 h in
               subst (λ (l : ℕ). value_of equal_thread (threads (shown (put f i s) (without_key equal_thread t n)) l) o ≡ value_of equal_thread (moved l) o) (sym place)
-              (ap (λ (ts : Threads). value_of equal_thread ts o) (shown_far (put f i s) (without_key equal_thread t n) i real ∙ ap (λ (x : Site). standing x.threads) (at_here f i s)) ∙ at_own)
+              (ap (λ (ts : Threads). value_of equal_thread ts o) (shown_threads_real (put f i s) (without_key equal_thread t n) i real ∙ ap (λ (x : Site). standing x.threads) (at_here f i s)) ∙ at_own)
           go false e false h =
               let far : k ≢ 0 = (λ x. let yes : (k == 0) ≡ true = (nat_decides k 0).1 x in cc) in
               let other : k ≢ i = (λ x. let yes : (k == i) ≡ true = (nat_decides k i).1 x in cc) in
-              ap (λ (ts : Threads). value_of equal_thread ts o) (shown_far (put f i s) (without_key equal_thread t n) k far ∙ ap (λ (x : Site). standing x.threads) (at_other f i s k other)
+              ap (λ (ts : Threads). value_of equal_thread ts o) (shown_threads_real (put f i s) (without_key equal_thread t n) k far ∙ ap (λ (x : Site). standing x.threads) (at_other f i s k other)
               ∙ sym (at_other (gone_on g 0 n None) i _ k other ∙ at_other g 0 _ k far ∙ rest k far))
 
 -- ---- those at number 0
 
 pub gone_waiters : (t : Threads) (n : ThreadName) (z : Stack) → value_of equal_thread t n ≡ Some (z, mode.Runs) → (b : Awaited) → SameWaiters t (without_key equal_thread t n) b
 gone_waiters t n z at b = goes_waiters t n None (z, mode.Runs) b at (λ su q. running_not z su b q) (λ su q. cc)
-
-pub gone_once : (t : Threads) (n : ThreadName) → AreDistinct (names t) → AreDistinct (names (without_key equal_thread t n))
-gone_once t n h = goes_once t n None h

@@ -47,9 +47,10 @@ use Rattle.world_cells.proofs.SendLemmas.{each_part}
 use Rattle.world_answers.proofs.ActLemmas.{IsKeptAct, act_next, act_here, act_all, act_equations, act_reached}
 use Rattle.world_answers.proofs.AnswerLemmas.{EachOfAnswer, answered_names, asking_one}
 use Rattle.world_answers.proofs.ClaimLemmas.{turns_away}
-use Rattle.world_answers.proofs.PackLemmas.{ReachedAt, shown_is, shown_far}
+use Rattle.world_answers.proofs.PackLemmas.{ReachedAt, shown_is}
 use Rattle.world_answers.proofs.SayLemmas.{answer_bundle, keepers_may}
 use Rattle.world_answers.proofs.StandLemmas.{EachOfStack-weaker, answer_not}
+use Rattle.world_answers.proofs.ShownLemmas.{shown_threads_real}
 
 pub answer_made : (P : Name → Type 0) (n : ThreadName) (y : Answer) (bundle : List Equation) → P (name.Thread n) → EachOfAnswer P y → Each (EachOfEquation P) bundle → Fit.EachOfMsg P (answer n y bundle)
 answer_made P n (NewEnd old new) bundle h g k = (h, g.0, g.1, k)
@@ -111,7 +112,7 @@ module _ (p : List Stmt) (i : ℕ) (real : i ≢ 0) (w : World) (ks : List Pick)
   away_reached same may = act_reached p i real w ks t r 0 o n st kinds at need on d row away_threads away_names may adapt
       (λ a. subst (λ (ts : Threads). SameWaiters (standing (w.sites i).threads) (standing ts) a) (sym same) (waiters_same (standing (w.sites i).threads) a))
       (λ a. goes_waiters t n (Some (left, mode.Runs)) (st, mode.Runs) a at (λ su q. running_not st su a q) (λ su q. running_not left su a q))
-      (subst (λ (ts : Threads). AreDistinct (names ts)) (shown_far w.sites t i real ∙ ap standing (sym same)) (r.sums.once i))
+      (subst (λ (ts : Threads). AreDistinct (names ts)) (shown_threads_real w.sites t i real ∙ ap standing (sym same)) (r.sums.once i))
       (subst (λ (xs : List ThreadName). AreDistinct xs) (sym (with_names t n (left, mode.Runs))) (r.sums.once 0))
     where
       Parts : (ℕ → Threads) → Type 0
@@ -119,7 +120,7 @@ module _ (p : List Stmt) (i : ℕ) (real : i ≢ 0) (w : World) (ks : List Pick)
 
       tables : ◌≡◌ {A = ℕ → Threads} (gone_on (threads (shown w.sites t)) 0 n (Some left)) (threads (shown (put w.sites i d.site) away_threads))
       tables = shown_is w.sites away_threads i d.site (gone_on (threads (shown w.sites t)) 0 n (Some left)) real (at_here (threads (shown w.sites t)) 0 _)
-          (at_other (threads (shown w.sites t)) 0 _ i real ∙ shown_far w.sites t i real ∙ ap standing (sym same)) (λ k far other. at_other (threads (shown w.sites t)) 0 _ k far ∙ shown_far w.sites t k far)
+          (at_other (threads (shown w.sites t)) 0 _ i real ∙ shown_threads_real w.sites t i real ∙ ap standing (sym same)) (λ k far other. at_other (threads (shown w.sites t)) 0 _ k far ∙ shown_threads_real w.sites t k far)
 
       adapt : Parts (gone_on (threads (shown w.sites t)) 0 n (Some left)) → Parts (threads (shown (put w.sites i d.site) away_threads))
       adapt h = subst Parts tables h

@@ -13,22 +13,16 @@ use Rattle.thread_roster.specs.declared.mode.Mode.{Mode}
 use Rattle.thread_roster.specs.declared.mode.Mode.TheVariants as mode
 use Rattle.thread_roster.specs.Binds.{goes_on}
 use Rattle.thread_roster.specs.Threads.{wake_where}
+use Rattle.thread_roster.proofs.NameLemmas.{is_other}
 use Rattle.site_model.specs.Site.{Site, Threads, ThreadState, runnable_threads}
 use Rattle.site_model.specs.Unit.{runnable_state}
 use Rattle.world_model.specs.World.{Sites, put}
 use Rattle.world_model.specs.Shown.{is_asking, standing, standing_site, shown}
 use Rattle.world_model.proofs.PutLemmas.{nat_decides}
 use Rattle.world_variables.specs.Sums.{names}
+use Rattle.world_answers.proofs.ClaimLemmas.{some_same}
 
 -- ---- keys
-
--- a name that is another's is not equal to it
-pub apart : (a b : ThreadName) → a ≢ b → equal_thread a b ≡ false
-apart a b other = go (equal_thread a b) refl
-  where
-    go : (q : Bool) → equal_thread a b ≡ q → q ≡ false
-    go true e = absurd (other ((same_thread_decides a b).0 e))
-    go false e = refl
 
 pub not_same : (a b : ThreadName) → equal_thread a b ≡ false → a ≢ b
 not_same a b e same = let yes : equal_thread a b ≡ true = (same_thread_decides a b).1 same in cc
@@ -89,9 +83,6 @@ standing_found (t ∷ ts) n = go (is_asking t.1.1) refl (equal_thread t.0 n) ref
     go false f true g ih = rw (g, f) refl
     go false f false g ih = rw g ih
 
-some_same : (v u : ThreadState) → Some v ≡ Some u → v ≡ u
-some_same v u e = cc
-
 -- who stands is there so
 pub stands_from : (ts : Threads) (n : ThreadName) (v : ThreadState) → value_of equal_thread (standing ts) n ≡ Some v → (value_of equal_thread ts n ≡ Some v) × (is_asking v.1 ≡ false)
 stands_from ts n v e = go (value_of equal_thread ts n) refl (sym (standing_found ts n) ∙ e)
@@ -125,7 +116,7 @@ standing_with (t ∷ ts) n v w e f g = go (equal_thread t.0 n) refl (is_asking t
         standing (cond b ((n, v) ∷ ts) (t ∷ with_value equal_thread ts n v)) ≡ with_value equal_thread (cond a (without_key equal_thread (standing ts) t.0) (t ∷ standing ts)) n v
     go true q true r k ih = let same : t.1 ≡ w = some_same t.1 w k in let no : is_asking t.1.1 ≡ false = subst (λ (x : ThreadState). is_asking x.1 ≡ false) (sym same) f in cc
     go true q false r k ih = rw (g, q) refl
-    go false q true r k ih = rw r (ap (λ (l : Threads). without_key equal_thread l t.0) (ih k) ∙ without_with (standing ts) t.0 n v (apart n t.0 (λ z. not_same t.0 n q (sym z))))
+    go false q true r k ih = rw r (ap (λ (l : Threads). without_key equal_thread l t.0) (ih k) ∙ without_with (standing ts) t.0 n v (is_other n t.0 (λ z. not_same t.0 n q (sym z))))
     go false q false r k ih = rw (r, q) (ap (λ (l : Threads). t ∷ l) (ih k))
 
 -- one that begins to wait for an answer is gone from among those that stand
@@ -202,7 +193,7 @@ less_each P (t ∷ ts) n h = go (equal_thread t.0 n) (less_each P ts n h.1)
     go true r = r
     go false r = (h.0, r)
 
-less_distinct : (ts : Threads) (n : ThreadName) → AreDistinct (names ts) → AreDistinct (names (without_key equal_thread ts n))
+pub less_distinct : (ts : Threads) (n : ThreadName) → AreDistinct (names ts) → AreDistinct (names (without_key equal_thread ts n))
 less_distinct [] n h = tt
 less_distinct (t ∷ ts) n h = go (equal_thread t.0 n) (less_distinct ts n h.1)
   where

@@ -40,6 +40,7 @@ use Rattle.world_model.proofs.KeyLemmas.{with_here, with_there}
 use Rattle.world_variables.specs.Plain.{IsKept}
 use Rattle.world_variables.proofs.FollowLemmas.{kept_made, kept_exchanged, kept_opened, kept_sent, stays_cell}
 use Rattle.world_variables.proofs.OwnLemmas.{binds_run}
+use Rattle.world_variables.proofs.SumLemmas.{cell_threads}
 use Rattle.tree_node.proofs.NameLemmas.{same_thread_decides}
 use Rattle.thread_roster.proofs.NameLemmas.{name_cases as threads_decide}
 use Rattle.world_cells.specs.Standing.{IsStanding, IsKeptUnit}
@@ -118,11 +119,6 @@ view_cell : (ch : CellChange) (s : Site) → after_cell ch (standing_site s) ≡
 view_cell Stays s = refl
 view_cell (Made c v) s = refl
 view_cell (Exchanged c new told) s = refl
-
-cell_threads : (ch : CellChange) (s : Site) → (after_cell ch s).threads ≡ s.threads
-cell_threads Stays s = refl
-cell_threads (Made c v) s = refl
-cell_threads (Exchanged c new told) s = refl
 
 pub view_stack : (n : ThreadName) (st : Stack) (w : ThreadState) (s : Site) → thread_state s n ≡ Some w → is_asking w.1 ≡ false → with_stack n st (standing_site s) ≡ standing_site (with_stack n st s)
 view_stack n st w s e f = ap (λ (ts : Threads). record s { threads = ts; ended = (with_stack n st s).ended; steps = (with_stack n st s).steps }) (sym (standing_goes s.threads n (living_stack st) w e f))

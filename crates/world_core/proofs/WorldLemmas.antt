@@ -18,7 +18,7 @@ use Rattle.world_simulation.proofs.SimulationLemmas.{every_run_is_simulated, del
 use Rattle.world_simulation.proofs.ProtocolLemmas.{protocols_always_hold}
 use Rattle.world_simulation.proofs.HoldLemmas.{answers_always_hold}
 use Rattle.world_simulation.proofs.TotalLemmas.{answer_messages_are_few, all_messages_are_few}
-use Rattle.world_core.specs.Laws.{HasMachine, HoldAnswers, WereFit, AreMessagesFew}
+use Rattle.world_core.specs.Laws.{HasMachine, HoldAnswers, WereFit, AreMessagesFew, HasRun}
 
 -- the run goes on by one entry
 module _ (p : List Stmt) (n limit : ℕ) (j : List Turn) (e : Turn) (w v : ℕ → Site) (d : Transition)
@@ -43,6 +43,9 @@ module _ (p : List Stmt) (n limit : ℕ) (j : List Turn) (e : Turn) (w v : ℕ �
 -- at the start
 pub run_starts : (p : List Stmt) (n limit : ℕ) (w : ℕ → Site) → ((i : ℕ) → w i ≡ initial_site p n i) → WorldRun p n limit [] w
 run_starts p n limit w start = record { wired = tt; sites = tt; runs = start }
+
+pub empty_run : (p : List Stmt) (n : ℕ) → HasRun p n []
+empty_run p n = ((λ i. initial_site p n i), run_starts p n bundle_limit (λ i. initial_site p n i) (λ i. refl))
 
 -- ---- what the laws say of this run
 

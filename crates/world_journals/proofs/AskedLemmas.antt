@@ -49,9 +49,7 @@ use Rattle.world_journals.proofs.PartPlaceLemmas.{Belongs, Part, belongs_later}
 use Rattle.world_journals.proofs.HeardLemmas.{AllBrought, AllComes, IsAsked, heard_part, answer_homes, serves_homes, asked_homes, told_homes}
 use Rattle.world_journals.proofs.UnitLemmas.{own_homes, binds_homes, cell_homes, birth_homes, port_loses, need_part, units_part}
 use Rattle.world_journals.proofs.PlaceLemmas.{PlacedIn, own, Came, comes, belongs, placed_in}
-
-abbrev Nobody : ThreadName → Type 0
-Nobody n = ⊥
+use Rattle.world_answers.proofs.OwedLemmas.{Nobody}
 
 abbrev NoRequest : CellName → ThreadName → Type 0
 NoRequest c n = ⊥

@@ -4,3 +4,4 @@ pub mod KeyLemmas
 pub mod MailLemmas
 pub mod MobileLemmas
 pub mod PutLemmas
+pub mod AbsentLemmas

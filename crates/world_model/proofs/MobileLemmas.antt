@@ -12,7 +12,7 @@ use Rattle.oz_model.proofs.KindLemmas.{equal_cell_decides}
 use Rattle.world_model.specs.Chain.{mobile_cells}
 use Rattle.world_model.proofs.PutLemmas.{nat_decides}
 
-abbrev Cells : Type 0
+abbrev pub Cells : Type 0
 Cells = List (CellName × VarName)
 
 -- a name that is no other's has no other home

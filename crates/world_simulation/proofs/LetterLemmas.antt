@@ -34,8 +34,7 @@ use Rattle.world_variables.proofs.StartLemmas.{start_thread}
 use Rattle.world_cells.specs.Standing.{IsStanding}
 use Rattle.world_answers.specs.Joined.{Joined}
 use Rattle.world_answers.proofs.LetterLemmas.{asked_port, letters_taken}
-use Rattle.world_answers.proofs.PackLemmas.{shown_far}
-use Rattle.world_answers.proofs.ShownLemmas.{stands_to}
+use Rattle.world_answers.proofs.ShownLemmas.{stands_to, shown_threads_real}
 use Rattle.world_answers.proofs.StandLemmas.{asks_for}
 use Rattle.world_messages.specs.Unfit.{IsLetter, BringsNew, TakesCells, SitesCells}
 use Rattle.world_messages.proofs.UnfitLemmas.{outside, own_number}
@@ -126,7 +125,7 @@ module _ (p : List Stmt) (n limit : ℕ) (j : List Turn) (f : Sites) (some : 1 �
           go (Some v) e = one (is_asking v.1) refl
             where
               one : (b : Bool) → is_asking v.1 ≡ b → thread_state (f m.to) th ≡ None
-              one false g = absurd (r.reached.parts.placed.apart m.to k th v.0 born.0 (v.1, ap (λ (ts : Threads). value_of equal_thread ts th) (shown_far f r.transit m.to (lives_real p n limit j f some run m.to th v e)) ∙ stands_to (f m.to).threads th v e g) (m.to, code, vars, bundle, q, born.1))
+              one false g = absurd (r.reached.parts.placed.apart m.to k th v.0 born.0 (v.1, ap (λ (ts : Threads). value_of equal_thread ts th) (shown_threads_real f r.transit m.to (lives_real p n limit j f some run m.to th v e)) ∙ stands_to (f m.to).threads th v e g) (m.to, code, vars, bundle, q, born.1))
               one true g =
                   let a = asks_for v.1 g in
                   let away = r.answers.asking.stands m.to th a.0 v.0 (e ∙ ap (λ (x : Mode). Some (v.0, x)) a.1, subst (λ (x : Mode). is_asking x ≡ true) a.1 g) in

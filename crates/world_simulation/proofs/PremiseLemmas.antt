@@ -27,8 +27,7 @@ use Rattle.world_model.specs.Matches.{IsThreadAt, IsInSpawn, ThreadsMatch}
 use Rattle.world_model.specs.Shown.{shown}
 use Rattle.world_model.specs.Simulated.{IsSimulated}
 use Rattle.world_answers.proofs.LivingLemmas.{told_state, told_option, told_sites, told_found, told_placed}
-use Rattle.world_answers.proofs.PackLemmas.{shown_far}
-use Rattle.world_answers.proofs.ShownLemmas.{stands_from}
+use Rattle.world_answers.proofs.ShownLemmas.{stands_from, shown_threads_real}
 use Rattle.world_messages.specs.BindRequests.{BringsThread, AnswersThread, Awaits, ThreadsPlaced}
 
 module _ (p : List Stmt) (n : ℕ) (j : List Turn) (f : Sites) (s : State) (h : IsSimulated p n j f s) (inside : (i : ℕ) (o : ThreadName) (v : ThreadState) → value_of equal_thread (f i).threads o ≡ Some v → (1 ≤ i) × (i ≤ n)) where
@@ -70,7 +69,7 @@ module _ (p : List Stmt) (n : ℕ) (j : List Turn) (f : Sites) (s : State) (h : 
   listed_mode i d n st w e a =
       let range = inside i n w a in
       let real : i ≢ 0 = (λ z. (let low : 1 ≤ i = range.0 in absurd (omega (arith, low, z)))) in
-      let here = stands_from (f i).threads n (st, WaitsFor (Cell d)) (ap (λ (ts : Threads). value_of equal_thread ts n) (sym (shown_far f h.transit i real)) ∙ e) in
+      let here = stands_from (f i).threads n (st, WaitsFor (Cell d)) (ap (λ (ts : Threads). value_of equal_thread ts n) (sym (shown_threads_real f h.transit i real)) ∙ e) in
       mode_of (st, WaitsFor (Cell d)) w d (sym here.0 ∙ a) refl
 
   waits_mode : (u w : ThreadState) (a : Awaited) → Some u ≡ Some w → u.1 ≡ WaitsFor a → w.1 ≡ WaitsFor a

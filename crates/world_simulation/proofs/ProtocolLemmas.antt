@@ -24,8 +24,7 @@ use Rattle.world_model.specs.Shown.{is_asking}
 use Rattle.world_model.specs.Simulated.{IsSimulated}
 use Rattle.world_variables.proofs.FollowLemmas.{value_each, all_in}
 use Rattle.world_variables.proofs.TellLemmas.{each_of}
-use Rattle.world_answers.proofs.PackLemmas.{shown_far}
-use Rattle.world_answers.proofs.ShownLemmas.{stands_to}
+use Rattle.world_answers.proofs.ShownLemmas.{stands_to, shown_threads_real}
 use Rattle.world_answers.proofs.StandLemmas.{asks_for}
 use Rattle.world_messages.specs.Unfit.{MessagesAreFit}
 use Rattle.world_messages.specs.Fitting.{WorldFits, IsFitting}
@@ -93,7 +92,7 @@ protocols_hold p n j w s h real fit fitting named = record {
 }
   where
     stack_made : (i : ℕ) (n : ThreadName) (v : ThreadState) → value_of equal_thread (w i).threads n ≡ Some v → (b : Bool) → is_asking v.1 ≡ b → EachOfStack (IsMade (counters w)) v.0
-    stack_made i n v e false q = (value_each (IsMade (counters w)) s.threads n v.0 h.matches.parts.centred.all.3 (h.matches.parts.placed.up i n v.0 (v.1, ap (λ (ts : Threads). value_of equal_thread ts n) (shown_far w h.transit i (real i n v e)) ∙ stands_to (w i).threads n v e q))).1
+    stack_made i n v e false q = (value_each (IsMade (counters w)) s.threads n v.0 h.matches.parts.centred.all.3 (h.matches.parts.placed.up i n v.0 (v.1, ap (λ (ts : Threads). value_of equal_thread ts n) (shown_threads_real w h.transit i (real i n v e)) ∙ stands_to (w i).threads n v e q))).1
     stack_made i n v e true q =
         let a = asks_for v.1 q in
         h.answers.made i n a.0 v.0 (e ∙ ap (λ (x : Mode). Some (v.0, x)) a.1, subst (λ (x : Mode). is_asking x ≡ true) a.1 q)

@@ -45,8 +45,7 @@ use Rattle.world_answers.proofs.JournalLemmas.{journal_paid, few_cell_messages}
 use Rattle.world_answers.proofs.LeaveLemmas.{Paid}
 use Rattle.world_answers.specs.Joined.{Joined}
 use Rattle.world_answers.proofs.OpenLemmas.{open_world, open_joined, open_at}
-use Rattle.world_answers.proofs.PackLemmas.{shown_far}
-use Rattle.world_answers.proofs.ShownLemmas.{stands_from}
+use Rattle.world_answers.proofs.ShownLemmas.{stands_from, shown_threads_real}
 use Rattle.world_simulation.proofs.AnswerLemmas.{sends_next, exchanges_next, takes_next}
 use Rattle.world_simulation.proofs.LetterLemmas.{lives_in, goes_to, letters, comes_new}
 use Rattle.world_messages.proofs.UnfitLemmas.{outside}
@@ -67,7 +66,7 @@ module _ (p : List Stmt) (n limit : ℕ) (is : IsProgram p) (low : 1 ≤ n) (hig
     where
       by : (n : ThreadName) (st : Stack) (m : Mode) → thread_state (w.sites i) n ≡ Some (st, m) → (u : Stack) × (value_of equal_thread (shown w.sites r.transit i).threads n ≡ Some (u, WaitsFor (Cell d))) → IsExchange p (w.sites i).equations st d
       by n st m a (u, e) =
-          let here = stands_from (w.sites i).threads n (u, WaitsFor (Cell d)) (ap (λ (ts : Threads). value_of equal_thread ts n) (sym (shown_far w.sites r.transit i real)) ∙ e) in
+          let here = stands_from (w.sites i).threads n (u, WaitsFor (Cell d)) (ap (λ (ts : Threads). value_of equal_thread ts n) (sym (shown_threads_real w.sites r.transit i real)) ∙ e) in
           let same : ◌≡◌ {A = ThreadState} (u, WaitsFor (Cell d)) (st, m) = (let q : ◌≡◌ {A = Option ThreadState} (Some (u, WaitsFor (Cell d))) (Some (st, m)) = sym here.0 ∙ a in cc) in
           let stack : u ≡ st = ap (λ (z : ThreadState). z.0) same in
           subst (λ (z : Stack). IsExchange p (w.sites i).equations z d) stack (r.reached.parts.waiting.exchanges i n u d e)

@@ -215,7 +215,7 @@ opens_summed m s c = same_summed s (opening m s) c c refl (record { ended = (tol
 
 -- ---- steps
 
-cell_threads : (ch : CellChange) (s : Site) → (after_cell ch s).threads ≡ s.threads
+pub cell_threads : (ch : CellChange) (s : Site) → (after_cell ch s).threads ≡ s.threads
 cell_threads Stays s = refl
 cell_threads (Made c v) s = refl
 cell_threads (Exchanged c new told) s = refl

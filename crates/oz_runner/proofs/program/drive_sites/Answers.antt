@@ -3,8 +3,8 @@ use Rattle.site_message.specs.Journal.{AreWithin}
 use Rattle.site_message.specs.EarlierEnd.{HasNoEarlierEnd}
 use Rattle.message_book.specs.Book.{IsReason}
 use Rattle.world_core.specs.Laws.{HasRun}
+use Rattle.world_core.proofs.WorldLemmas.{empty_run}
 use Rattle.plain_run.specs.Progress.{HasReason}
-use Rattle.plain_run.proofs.TotalsLemmas.{empty_run}
 use Rattle.oz_runner.proofs.BookLemmas.{reason_of_book}
 use Rattle.oz_runner.proofs.program.drive_sites.Goals as goal
 

@@ -5,7 +5,7 @@ use Rattle.site_message.specs.EarlierEnd.{HasNoEarlierEnd}
 use Rattle.site_model.specs.Site.{initial_site}
 use Rattle.site_core.specs.Start.{first_order}
 use Rattle.world_core.specs.Laws.{HasRun}
-use Rattle.plain_run.proofs.TotalsLemmas.{empty_run}
+use Rattle.world_core.proofs.WorldLemmas.{empty_run}
 use Rattle.plain_run.proofs.run.run_world.Goals as goal
 
 pub returns-in-Err-clause-run : goal.returns-in-Err-clause-run

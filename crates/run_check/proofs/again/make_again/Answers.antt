@@ -2,9 +2,10 @@ use Rattle.std.proofs.Common.{sym, subst, List}
 use Rattle.kernel_syntax.specs.declared.stmt.Stmt.{Stmt}
 use Rattle.site_message.specs.declared.turn.Turn.{Turn}
 use Rattle.world_core.specs.Laws.{HasRun, AreMessagesFew}
+use Rattle.world_core.proofs.WorldLemmas.{empty_run}
 use Rattle.run_check.specs.Again.{IsFrontMadeAgain, IsWrongAt}
 use Rattle.run_check.specs.World.{limits_of}
-use Rattle.run_check.proofs.WorldLemmas.{empty_run, empty_few, none_made}
+use Rattle.run_check.proofs.WorldLemmas.{empty_few, none_made}
 use Rattle.run_check.proofs.again.make_again.Goals as goal
 
 pub returns-in-Ok-clause-wrong : goal.returns-in-Ok-clause-wrong

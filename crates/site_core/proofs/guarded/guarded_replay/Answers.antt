@@ -1,6 +1,7 @@
 use Rattle.std.proofs.Common.{◌∙◌, sym, refl}
-use Rattle.site_core.proofs.ResultLemmas.{of_made, no_value, no_value_on, on_ok_given, on_err_given, no_error, not_spent}
+use Rattle.site_core.proofs.ResultLemmas.{no_value, no_value_on, on_ok_given, on_err_given, no_error, not_spent}
 use Rattle.site_core.proofs.guarded.guarded_replay.Goals as goal
+use Rattle.tree_node.proofs.ResultLemmas.{of_made}
 
 pub returns-then-is_err-clause-kept : goal.returns-then-is_err-clause-kept
 returns-then-is_err-clause-kept c e = not_spent e
