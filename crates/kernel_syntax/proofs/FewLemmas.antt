@@ -1,5 +1,5 @@
 -- Two and three positions in ascending order.
-use Rattle.std.proofs.Common.{arith, ◌≡◌, ◌∙◌, ap, refl, ℕ, suc, ◌<◌, List, [], ◌∷◌, map, length, get_or}
+use Rattle.std.proofs.Common.{arith, ◌≡◌, ◌∙◌, ap, ℕ, suc, ◌<◌, [], ◌∷◌, map}
 use Rattle.kernel_syntax.specs.Free.{with_position, with_positions}
 
 pub two_up : (a b : ℕ) → a < b → with_positions [] (a ∷ b ∷ []) ≡ a ∷ b ∷ []
@@ -36,15 +36,3 @@ third_same low high c same = grind (arith, same)
 
 pub third_first : (low high c : ℕ) → c < low → with_position c (low ∷ high ∷ []) ≡ c ∷ low ∷ high ∷ []
 third_first low high c below = grind (arith, below)
-
--- a list of one, and of two
-pub list_of_one : {X : Type 0} (xs : List X) (d : X) → length xs ≡ 1 → xs ≡ get_or xs 0 d ∷ []
-list_of_one [] d one = absurd (omega (arith, one))
-list_of_one (x ∷ []) d one = refl
-list_of_one (x ∷ y ∷ xs) d one = absurd (omega (arith, one))
-
-pub list_of_two : {X : Type 0} (xs : List X) (d e : X) → length xs ≡ 2 → xs ≡ get_or xs 0 d ∷ get_or xs 1 e ∷ []
-list_of_two [] d e two = absurd (omega (arith, two))
-list_of_two (x ∷ []) d e two = absurd (omega (arith, two))
-list_of_two (x ∷ y ∷ []) d e two = refl
-list_of_two (x ∷ y ∷ z ∷ xs) d e two = absurd (omega (arith, two))

@@ -1,7 +1,7 @@
 -- Fronts of ascending lists as the free positions of statements.
 use Rattle.std.proofs.Common.{arith, ◌≡◌, ◌∙◌, sym, ap, refl, subst, ℕ, zero, suc, ◌+◌, ◌-◌, ◌<◌, ◌≤◌, List, [], ◌∷◌, ◌++◌, map, length, take, drop, drop-cons, get_or, append_assoc}
 use Rattle.std.proofs.Math.Seq.{take-length}
-use Rattle.std.proofs.lemmas.List.{append-nil, map-append, get_or-map}
+use Rattle.std.proofs.lemmas.List.{append-nil}
 use Rattle.std.specs.Prelude.{slice_index_or}
 use Rattle.tree_node.specs.declared.names.CodeId.{CodeId}
 use Rattle.tree_node.specs.Each.{Each}
@@ -10,7 +10,6 @@ use Rattle.tree_node.proofs.EnvLemmas.{each_at}
 use Rattle.kernel_syntax.specs.Scopes.{bare_scope}
 use Rattle.kernel_syntax.specs.Free.{AreRising, with_position, with_positions, without_declared, free_in_each}
 use Rattle.kernel_syntax.specs.Table.{HasFree, IsPrefixOf, free_at}
-use Rattle.kernel_syntax.specs.PositionLists.{list_at, lists_of, IsWithin}
 use Rattle.kernel_syntax.proofs.OrderLemmas.{Each-at, above_all, position_above}
 
 -- ---- ascending positions behind others
@@ -180,36 +179,6 @@ second_prefix len lists (c ∷ []) d first whole at one bodies up rises is place
 second_prefix len lists (c ∷ b ∷ cs) d first whole at one bodies up rises is place has = absurd (omega (arith, one))
 
 -- ---- a list that is the front of another
-
-take_front : (n m : ℕ) (xs : List ℕ) → n ≤ m → take n (take m xs) ≡ take n xs
-take_front zero m xs l = refl
-take_front (suc n) zero xs l = absurd (omega (arith, l))
-take_front (suc n) (suc m) [] l = refl
-take_front (suc n) (suc m) (x ∷ xs) l = ap (λ (ys : List ℕ). x ∷ ys) (take_front n m xs (omega (arith, l)))
-
-taken_length : (m : ℕ) (xs : List ℕ) → length (take m xs) ≤ m
-taken_length zero xs = omega arith
-taken_length (suc m) [] = omega arith
-taken_length (suc m) (x ∷ xs) = let ih : length (take m xs) ≤ m = taken_length m xs in omega (arith, ih)
-
--- the span that begins where another does, and has so many positions, no more than that
-pub prefix_span : (xs : List ℕ) (spans : List (ℕ × ℕ)) (at count : ℕ) (span : ℕ × ℕ) → at < length spans → span ≡ get_or spans at span → count ≤ length (slice_index_or (lists_of xs spans) at [])
-    → lists_of xs (spans ++ (span.0, span.0 + count) ∷ []) ≡ lists_of xs spans ++ take count (slice_index_or (lists_of xs spans) at []) ∷ []
-prefix_span xs spans at count span here is few =
-    let same : slice_index_or (lists_of xs spans) at [] ≡ list_at xs span = get_or-map (list_at xs) spans at span [] here ∙ ap (list_at xs) (sym is) in
-    let short : count ≤ span.1 - span.0 = (let m = taken_length (span.1 - span.0) (drop span.0 xs) in let l : length (slice_index_or (lists_of xs spans) at []) ≡ length (list_at xs span) = ap length same in omega (arith, few, l, m)) in
-    let long : span.0 + count - span.0 ≡ count = omega arith in
-    map-append (list_at xs) spans ((span.0, span.0 + count) ∷ [])
-    ∙ ap (λ (n : ℕ). lists_of xs spans ++ take n (drop span.0 xs) ∷ []) long
-    ∙ ap (λ (ys : List ℕ). lists_of xs spans ++ ys ∷ []) (sym (take_front count (span.1 - span.0) (drop span.0 xs) short) ∙ ap (take count) (sym same))
-
-pub prefix_within : (xs : List ℕ) (spans : List (ℕ × ℕ)) (at count : ℕ) (span : ℕ × ℕ) → at < length spans → span ≡ get_or spans at span → IsWithin xs span → count ≤ length (slice_index_or (lists_of xs spans) at [])
-    → IsWithin xs (span.0, span.0 + count)
-prefix_within xs spans at count span here is within few =
-    let same : slice_index_or (lists_of xs spans) at [] ≡ list_at xs span = get_or-map (list_at xs) spans at span [] here ∙ ap (list_at xs) (sym is) in
-    let m = taken_length (span.1 - span.0) (drop span.0 xs) in
-    let l : length (slice_index_or (lists_of xs spans) at []) ≡ length (list_at xs span) = ap length same in
-    (omega arith, omega (arith, few, l, m, within.0, within.1))
 
 -- the next statement of a sequence
 pub passed_next : (f : CodeId → List ℕ) (js : List ℕ) (cs : List CodeId) (i : ℕ) (d : CodeId) → i < length cs → with_positions js (f (get_or cs i d)) ≡ js

@@ -2,7 +2,7 @@
 use Rattle.std.proofs.Common.{arith, ◌≡◌, sym, ap, refl, ℕ, zero, suc, ◌+◌, ◌-◌, ◌<◌, ◌≤◌, List, [], ◌∷◌, ◌++◌, length, get_or, drop, drop-cons, add-one, Bool, true, false, cond}
 use Rattle.std.specs.Prelude.{◌==◌, nat_lt, insert, MatchResult, IfOk, IfErr, Result, Ok, Err}
 use Rattle.std.specs.Ordering.{nat_cmp}
-use Rattle.std.specs.List.Sorted.{IsBinarySearchResult, IsSearchInRange}
+use Rattle.std.specs.List.Sorted.{IsBinarySearchResult}
 use Rattle.std.proofs.lemmas.List.Sorted.{searched}
 use Rattle.tree_node.specs.Each.{Each}
 use Rattle.kernel_syntax.specs.Free.{AreRising, with_position, with_positions}
@@ -96,10 +96,6 @@ searched_missing k js r up at = go r (with_position_searched k js r up at)
     go : (r : Result ℕ ℕ) → MatchResult r (λ i. with_position k js ≡ js) (λ i. with_position k js ≡ insert js i k) → IfErr r (λ i. insert js i k ≡ with_position k js)
     go (Ok i) h = tt
     go (Err i) h = sym h
-
-pub searched_within : (r : Result ℕ ℕ) (n : ℕ) → IsSearchInRange r n → IfErr r (λ i. i ≤ n)
-searched_within (Ok i) n h = tt
-searched_within (Err i) n h = h
 
 -- a position above all, by the last of them
 pub above_all : (k : ℕ) (js : List ℕ) (i : ℕ) → AreRising js → suc i ≡ length js → get_or js i 0 < k → Each (λ j. j < k) js

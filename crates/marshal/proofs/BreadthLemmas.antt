@@ -285,9 +285,6 @@ pub record IsWalk (s : Store) (xs queue : List VarName) (es : List Equation) : T
   pub behind : queue ≡ xs ++ equation_vars es
   pub begins : IsFirst es (reachable_equations s xs)
 
-pub walk_begins : (s : Store) (xs : List VarName) → IsWalk s xs xs []
-walk_begins s xs = record { behind = sym (append-nil xs); begins = (reachable_equations s xs, refl) }
-
 -- the equations of the first variables of the queue are the first ones that are reached
 pub walk_first : (s : Store) (xs queue ys zs : List VarName) (es : List Equation) → IsWalk s xs queue es → queue ≡ ys ++ zs → IsFirst (equations_among s ys) (reachable_equations s xs)
 walk_first s xs queue ys zs es h e = go h.begins

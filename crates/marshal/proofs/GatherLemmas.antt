@@ -15,7 +15,7 @@ use Rattle.site_model.specs.Bundle.{distinct_vars, known_equations, reachable_eq
 use Rattle.site_model.specs.Laws.{left_names}
 use Rattle.marshal.specs.Marshal.{equations_among, IsNext}
 use Rattle.marshal.proofs.ImportLemmas.{distinct_append}
-use Rattle.marshal.proofs.BreadthLemmas.{IsFirst, IsWalk, walk_begins, walk_goes_on, walk_ends, known_append}
+use Rattle.marshal.proofs.BreadthLemmas.{IsFirst, IsWalk, walk_goes_on, walk_ends, known_append}
 use Rattle.site_model.proofs.AscendingLemmas.{ascending_names, ascending_more, bundles_are_ordered}
 
 -- ---- the equation of a variable
@@ -116,9 +116,6 @@ pub record IsGathered (s : Store) (xs queue : List VarName) (from : ℕ) (taken 
   pub order : taken ≡ ascending (equations_among s (take from queue))
   pub many : length (equations_among s (take from queue)) ≡ count
   pub inside : from ≤ length queue
-
-pub gathered_first : (s : Store) (xs : List VarName) (taken : List Equation) → taken ≡ [] → IsGathered s xs xs 0 taken 0
-gathered_first s xs taken e = record { walk = walk_begins s xs; order = e; many = refl; inside = omega arith }
 
 pub gathered_more : (s : Store) (xs queue queue2 : List VarName) (from place count : ℕ) (taken taken2 : List Equation) (t : Term) (d : VarName) → IsForest s → IsGathered s xs queue from taken count → IsNext s queue from taken place t →
     queue2 ≡ queue ++ vars_of t → taken2 ≡ insert_ascending (get_or queue place d, t) taken → IsGathered s xs queue2 (place + 1) taken2 (count + 1)

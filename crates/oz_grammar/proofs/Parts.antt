@@ -27,10 +27,6 @@ pub record Taken (Part : Type 0) (text : Part → List Symbol → List Symbol) (
 pub never : (out : List Symbol) → None ≡ Some out → ⊥
 never out h = cc
 
--- one symbol more before the part
-abbrev pub behind_sign : Sign → List Symbol → List Symbol
-behind_sign s rest = sign_symbol s ∷ rest
-
 abbrev pub SignTaken : Sign → List Point → List Symbol → List Symbol → Type 0
 SignTaken s σ symbols out = (rest : List Symbol) × (symbols ≡ sign_symbol s ∷ rest) × (leaves rest σ ≡ Some out)
 

@@ -1,8 +1,8 @@
 -- What a pick more, and a pick less, does to the columns.
 use Rattle.std.proofs.Common.{arith, ◌≡◌, ◌≢◌, ◌∙◌, sym, ap, refl, subst, ℕ, zero, suc, ◌+◌, ◌-◌, ◌<◌, ◌≤◌, length, List, [], ◌∷◌, ◌++◌, take, drop, map, Bool, cond, Some, None, ◌⊎◌, inl, inr, add-one, get_or}
 use Rattle.std.specs.Prelude.{Option, reverse, option_to_list}
-use Rattle.std.proofs.lemmas.Bool.{lt-ltb, le-ltb, eq-eqb, ne_eqb, cases_eq}
-use Rattle.std.proofs.lemmas.List.{map-append, append-nil, append_assoc, drop_at, take_at, length-append, length-take-le, reverse-append, take_more, take_all}
+use Rattle.std.proofs.lemmas.Bool.{eq-eqb, ne_eqb, cases_eq}
+use Rattle.std.proofs.lemmas.List.{map-append, append-nil, append_assoc, drop_at, take_at, length-append, reverse-append, take_more, take_all}
 use Rattle.tree_node.specs.declared.names.Name.{Name}
 use Rattle.tree_node.specs.declared.names.ThreadName.{ThreadName}
 use Rattle.tree_node.specs.declared.pick.Pick.{Pick}
@@ -10,7 +10,7 @@ use Rattle.tree_node.specs.Store.{Equation}
 use Rattle.pick_list.specs.declared.columns.Stretch.{Stretch}
 use Rattle.pick_list.specs.declared.columns.Naming.{Naming}
 use Rattle.pick_list.specs.declared.columns.Bind.{Bind}
-use Rattle.pick_list.specs.Columns.{Columns, AreColumns, columns_of, thread_at, fresh_at, bind_at, pick_at, picks_below, AreStretches, AreNamings, AreBinds, HasThread, IsStretchOn, IsNamingOn, IsStretchBefore, IsNamingBefore, IsBindBefore}
+use Rattle.pick_list.specs.Columns.{Columns, AreColumns, columns_of, thread_at, fresh_at, bind_at, pick_at, picks_below, AreNamings, AreBinds, IsStretchOn, IsNamingOn, IsStretchBefore, IsNamingBefore, IsBindBefore}
 use Rattle.pick_list.specs.Binds.{binds_of, equation_of}
 
 -- ---- lists the other way round
@@ -23,37 +23,6 @@ empty_list [] e = refl
 empty_list (x ∷ xs) e = absurd (omega (arith, e))
 
 -- ---- stretches
-
-pub stretch_on_same : (n : ℕ) (t : ThreadName) (rs : List Stretch) → AreStretches n rs → HasThread rs t → IsStretchOn n t rs rs
-stretch_on_same n t [] h is = absurd is
-stretch_on_same n t (r ∷ rs) h is = record {
-  last = ap (λ (b : Bool). cond b (thread_at rs n) r.thread) (le-ltb n r.first (let below = h.0 in omega arith)) ∙ is;
-  before = λ k below. refl;
-  stretches = (let below = h.0 in omega arith, h.1);
-}
-
-pub stretch_on_new : (n : ℕ) (t : ThreadName) (rs : List Stretch) → AreStretches n rs → IsStretchOn n t rs (record { first = n; thread = t } ∷ rs)
-stretch_on_new n t rs h = record {
-  last = ap (λ (b : Bool). cond b (thread_at rs n) t) (le-ltb n n (omega arith));
-  before = λ k below. ap (λ (b : Bool). cond b (thread_at rs k) t) (lt-ltb k n below);
-  stretches = (omega arith, h);
-}
-
-pub stretch_before_all : (n : ℕ) (rs : List Stretch) → AreStretches (n + 1) rs → ((r : Stretch) (more : List Stretch) → rs ≡ r ∷ more → r.first ≢ n) → IsStretchBefore n rs rs
-stretch_before_all n [] h other = absurd (omega (arith, h))
-stretch_before_all n (r ∷ rs) h other = record {
-  same = λ k below. refl;
-  stretches = (let apart : r.first ≢ n = other r rs refl in let below = h.0 in omega arith, h.1);
-}
-
-pub stretch_before_rest : (n : ℕ) (r : Stretch) (rs : List Stretch) → AreStretches (n + 1) (r ∷ rs) → r.first ≡ n → IsStretchBefore n (r ∷ rs) rs
-stretch_before_rest n r rs h is = record {
-  same = λ k below. sym (ap (λ (b : Bool). cond b (thread_at rs k) r.thread) (lt-ltb k r.first (omega arith)));
-  stretches = subst (λ (m : ℕ). AreStretches m rs) is h.1;
-}
-
-pub last_stretch : (n : ℕ) (r : Stretch) (rs : List Stretch) → AreStretches (n + 1) (r ∷ rs) → thread_at (r ∷ rs) n ≡ r.thread
-last_stretch n r rs h = ap (λ (b : Bool). cond b (thread_at rs n) r.thread) (le-ltb n r.first (let below = h.0 in omega arith))
 
 -- ---- namings
 
@@ -83,19 +52,6 @@ naming_some n first fresh before ts is h = record {
   namings = (omega arith, omega (arith, length-append before fresh), h);
 }
 
-pub naming_before_all : (n : ℕ) (names : List Name) (ts : List Naming) → AreNamings (n + 1) (length names) ts → ((t : Naming) (more : List Naming) → ts ≡ t ∷ more → t.pick ≢ n) → IsNamingBefore n names ts names ts
-naming_before_all n names [] h other = record { same = λ k below. refl; namings = tt }
-naming_before_all n names (t ∷ ts) h other = record {
-  same = λ k below. refl;
-  namings = (let apart : t.pick ≢ n = other t ts refl in let below = h.0 in omega arith, h.1, h.2);
-}
-
-pub naming_before_rest : (n : ℕ) (names : List Name) (t : Naming) (ts : List Naming) → AreNamings (n + 1) (length names) (t ∷ ts) → t.pick ≡ n → IsNamingBefore n names (t ∷ ts) (take t.first names) ts
-naming_before_rest n names t ts h is = record {
-  same = λ k below. sym (ap (λ (b : Bool). cond b (drop t.first names) (fresh_at ts (take t.first names) k)) (ne_eqb t.pick k (λ same. absurd (omega arith))));
-  namings = namings_more t.pick n t.first (length (take t.first names)) ts (omega arith) (let within = h.1 in omega (arith, length-take-le t.first names within)) h.2;
-}
-
 -- ---- binds
 
 pub no_bind : (n : ℕ) (bs : List Bind) (k : ℕ) → AreBinds n bs → n ≤ k → bind_at bs k ≡ None
@@ -113,19 +69,6 @@ bind_here b bs n is = ap (λ (d : Bool). cond d (Some (b.var, b.term)) (bind_at 
 
 pub bind_other : (b : Bind) (bs : List Bind) (k : ℕ) → b.pick ≢ k → bind_at (b ∷ bs) k ≡ bind_at bs k
 bind_other b bs k other = ap (λ (d : Bool). cond d (Some (b.var, b.term)) (bind_at bs k)) (ne_eqb b.pick k other)
-
-pub bind_before_all : (n : ℕ) (bs : List Bind) → AreBinds (n + 1) bs → ((b : Bind) (more : List Bind) → bs ≡ b ∷ more → b.pick ≢ n) → IsBindBefore n bs bs
-bind_before_all n [] h other = record { same = λ k below. refl; binds = tt }
-bind_before_all n (b ∷ bs) h other = record {
-  same = λ k below. refl;
-  binds = (let apart : b.pick ≢ n = other b bs refl in let below = h.0 in omega arith, h.1);
-}
-
-pub bind_before_rest : (n : ℕ) (b : Bind) (bs : List Bind) → AreBinds (n + 1) (b ∷ bs) → b.pick ≡ n → IsBindBefore n (b ∷ bs) bs
-bind_before_rest n b bs h is = record {
-  same = λ k below. sym (bind_other b bs k (λ same. absurd (omega arith)));
-  binds = binds_more b.pick n bs (omega arith) h.1;
-}
 
 -- ---- the picks
 

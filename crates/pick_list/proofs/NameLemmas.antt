@@ -1,7 +1,7 @@
 -- Rows of names, and columns of names in runs.
 use Rattle.std.specs.Prelude.{reverse, drop}
 use Rattle.std.proofs.Common.{arith, ◌≡◌, ◌≢◌, ◌∙◌, sym, ap, refl, subst, ℕ, zero, suc, ◌+◌, ◌-◌, ◌<◌, ◌≤◌, length, List, [], ◌∷◌, ◌++◌, take, get_or, add-one, ◌⊎◌, inl, inr}
-use Rattle.std.proofs.lemmas.List.{append-nil, append_assoc, length-append, length-drop, reverse-append, take-append-drop, take-append-le, get_or_push, get_or_append_left, take_all, take_at, take_more}
+use Rattle.std.proofs.lemmas.List.{append-nil, append_assoc, length-append, length-drop, reverse-append, take-append-drop, take-append-le, get_or_push, get_or_append_left, take_all, take_more}
 use Rattle.std.proofs.lemmas.Bool.{cases_eq}
 use Rattle.tree_node.specs.Each.{Each}
 use Rattle.tree_node.specs.declared.names.VarName.{VarName}
@@ -76,13 +76,6 @@ row_next x n = ap (row_of x) (add-one n)
 pub row_one : (x : VarName) → row_of (name.Var x) 1 ≡ name.Var x ∷ []
 row_one x = ap (λ (y : Name). y ∷ []) (same_var x.site x.site (x.num + 0) x.num refl (omega arith))
 
-pub one_name : (x : Name) → row_of x 1 ≡ x ∷ []
-one_name (name.Var x) = row_one x
-one_name (name.Cell x) = refl
-one_name (name.Proc x) = refl
-one_name (name.Thread x) = refl
-one_name (name.Port x) = refl
-
 -- a row of one name that follows those of another one makes a row
 pub row_more : (x y : Name) (m n : ℕ) → IsNameAfter x m y → IsRow y n → IsRow x (m + n)
 row_more (name.Var x) (name.Var y) m n is (inl few) = inr (let num = is.1 in let below = is.2 in omega arith)
@@ -95,22 +88,6 @@ row_more (name.Cell x) y m n is row = absurd is
 row_more (name.Proc x) y m n is row = absurd is
 row_more (name.Thread x) y m n is row = absurd is
 row_more (name.Port x) y m n is row = absurd is
-
--- and a part of a row is one
-pub row_less : (x : Name) (m n : ℕ) → m ≤ n → IsRow x n → IsRow x m
-row_less (name.Var x) m n h (inl few) = inl (omega arith)
-row_less (name.Var x) m n h (inr fits) = inr (omega arith)
-row_less (name.Cell x) m n h few = omega arith
-row_less (name.Proc x) m n h few = omega arith
-row_less (name.Thread x) m n h few = omega arith
-row_less (name.Port x) m n h few = omega arith
-
-pub row_single : (x : Name) → IsRow x 1
-row_single (name.Var x) = inl (omega arith)
-row_single (name.Cell x) = omega arith
-row_single (name.Proc x) = omega arith
-row_single (name.Thread x) = omega arith
-row_single (name.Port x) = omega arith
 
 -- ---- runs in a vector, the oldest first there
 
@@ -134,10 +111,6 @@ pub none_followed : (runs : List NameRun) (y : Name) → length runs ≡ 0 → F
 none_followed [] y none after = after
 none_followed (r ∷ runs) y none after = absurd (omega (arith, none))
 
-pub no_names : (runs : List NameRun) → length runs ≡ 0 → length (names_in (reverse runs)) ≡ 0
-no_names [] none = refl
-no_names (r ∷ runs) none = absurd (omega (arith, none))
-
 -- the run at a place is one
 pub run_at : (runs : List NameRun) (k : ℕ) (d : NameRun) → k < length runs → Each IsRun (reverse runs) → IsRun (get_or runs k d)
 run_at [] k d below all = absurd (omega (arith, below))
@@ -150,9 +123,6 @@ pub names_more : (runs : List NameRun) (k : ℕ) (d : NameRun) → k < length ru
 names_more runs k d below = names_put (take k runs) (take (k + 1) runs) (get_or runs k d) (take_more runs k d below)
 
 -- ---- less names
-
-pub cut_none : (old : List Name) (n : ℕ) → n ≡ 0 → IsCutTo old old n
-cut_none old n none = record { tail = []; names = sym (append-nil old); size = sym none }
 
 -- a whole run more is gone
 pub cut_run : (old mid new : List Name) (x : Name) (n gone all : ℕ) → IsCutTo old mid gone → mid ≡ new ++ row_of x n → n + gone ≡ all → IsCutTo old new all
@@ -177,10 +147,3 @@ cut_part old mid rest new x n k gone all cut is less left sum = record {
   where
     whole : row_of x n ≡ row_of x k ++ drop k (row_of x n)
     whole = sym (take-append-drop k (row_of x n)) ∙ ap (λ (l : List Name). l ++ drop k (row_of x n)) (row_take x n k less)
-
-pub cut_length : (old new : List Name) (n : ℕ) → IsCutTo old new n → length new + n ≡ length old
-cut_length old new n cut = sym (ap (λ (l : List Name). length l) cut.names ∙ (length-append new cut.tail ∙ ap (λ (m : ℕ). length new + m) cut.size))
-
--- what is left are the first ones
-pub cut_taken : (old new : List Name) (n most : ℕ) → IsCutTo old new n → length new ≡ most → new ≡ take most old
-cut_taken old new n most cut long = sym (ap (take most) cut.names ∙ take_at new cut.tail most long)

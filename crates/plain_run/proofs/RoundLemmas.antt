@@ -2,22 +2,19 @@
 use Rattle.std.proofs.Common.{arith, ◌≡◌, ◌∙◌, sym, ap, refl, subst, ℕ, ◌<◌, ◌≤◌, List, [], true, false, ◌⊎◌, inl, inr, Some, None}
 use Rattle.std.specs.Prelude.{Option, MatchOption}
 use Rattle.std.proofs.lemmas.Bool.{cases_lt, cases_eq}
-use Rattle.kernel_syntax.specs.declared.stmt.Stmt.{Stmt}
 use Rattle.site_message.specs.declared.message.Msg.{Msg}
 use Rattle.site_message.specs.declared.turn.Turn.{Turn}
 use Rattle.site_message.specs.Journal as journal
 use Rattle.site_message.specs.Journal.{IsTravelling}
 use Rattle.site_model.specs.Bundle.{bundle_limit}
-use Rattle.site_model.specs.Site.{initial_site, is_idle}
+use Rattle.site_model.specs.Site.{is_idle}
 use Rattle.site_model.specs.Run.{WorldRun}
-use Rattle.site_core.specs.Start.{first_order}
 use Rattle.world_core.specs.declared.travel.Travel.{Travel}
 use Rattle.world_core.specs.Travels.{IsAt, IsNoneFor, IsFirstFor, AreTravels, IsNothingFor, IsNumberAt}
-use Rattle.world_core.specs.World.{WorldState, states_of, orders_of}
+use Rattle.world_core.specs.World.{WorldState, states_of}
 use Rattle.world_core.proofs.QuietLemmas.{idle_as_told, at_contains}
-use Rattle.site_message.specs.declared.limits.Limits.{Limits}
-use Rattle.plain_run.specs.Rounds.{HasNothingToDo, IsLowestFor, ComesBefore, LeadsTo, IsPlainRun, AreTurnsDetermined, last_site}
-use Rattle.plain_run.specs.Progress.{IsAtEase, IsBusy, standing_of}
+use Rattle.plain_run.specs.Rounds.{HasNothingToDo, IsLowestFor, ComesBefore, AreTurnsDetermined, last_site}
+use Rattle.plain_run.specs.Progress.{IsAtEase, IsBusy}
 
 -- ---- messages
 
@@ -64,16 +61,6 @@ module _ (w : WorldState) (run : WorldRun w.program w.sites bundle_limit w.journ
   something_to_do i h (inr some) e = some (none_for w.journal w.travels i h e.1)
 
 -- ---- the circle
-
-pub at_start : (n : ℕ) (j : List Turn) → j ≡ [] → n ≡ last_site n j
-at_start n j e = sym (ap (last_site n) e)
-
--- before the first turn each site is at its start
-pub before_turns : (p : List Stmt) (l : Limits) → IsPlainRun p l []
-before_turns p l = (record { states = initial_site p l.sites; orders = first_order }, λ i. (refl, refl))
-
-pub starts_plain : (p : List Stmt) (l : Limits) (w : WorldState) → w.journal ≡ [] → ((i : ℕ) → states_of w i ≡ initial_site p l.sites i) → ((i : ℕ) → orders_of w i ≡ first_order i) → LeadsTo p l w.journal (standing_of w)
-starts_plain p l w none states orders = subst (λ (j : List Turn). LeadsTo p l j (standing_of w)) (sym none) (λ i. (states i, orders i))
 
 -- ---- one turn alone may be the next
 

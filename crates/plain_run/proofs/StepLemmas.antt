@@ -12,7 +12,7 @@ use Rattle.tree_node.specs.declared.names.Name.{Name}
 use Rattle.tree_node.specs.declared.names.NameKind.{NameKind}
 use Rattle.tree_node.specs.declared.node.Term.{Term}
 use Rattle.tree_node.specs.declared.pick.Pick.{Pick}
-use Rattle.tree_node.specs.Assoc.{value_of, with_value, without_key}
+use Rattle.tree_node.specs.Assoc.{value_of, with_value}
 use Rattle.tree_node.specs.State.{Stack, equal_thread}
 use Rattle.tree_node.specs.Store.{Equation}
 use Rattle.kernel_syntax.specs.declared.stmt.Stmt.{Stmt}
@@ -84,54 +84,6 @@ fewer_run s t h =
     let more = h.1 in
     let fit = waiting_fit t.threads in
     omega arith
-
--- without a thread: not more of those that wait are gone than of all
-abbrev Fewer : ℕ → Threads → Threads → Type 0
-Fewer k ts us = length us + waiting_of ts + k ≤ length ts + waiting_of us
-
-front_fewer : (t : ThreadName × ThreadState) (ts us : Threads) (k : ℕ) → Fewer k ts us → Fewer k (t ∷ ts) (t ∷ us)
-front_fewer t ts us k h = by (is_waiting t.1.1)
-  where
-    by : (b : Bool) → length (t ∷ us) + length (cond b (t ∷ filter keeps ts) (filter keeps ts)) + k ≤ length (t ∷ ts) + length (cond b (t ∷ filter keeps us) (filter keeps us))
-    by true = omega (arith, h)
-    by false = omega (arith, h)
-
-gone_fewer : (t : ThreadName × ThreadState) (ts us : Threads) → Fewer 0 ts us → Fewer 0 (t ∷ ts) us
-gone_fewer t ts us h = by (is_waiting t.1.1)
-  where
-    by : (b : Bool) → length us + length (cond b (t ∷ filter keeps ts) (filter keeps ts)) + 0 ≤ length (t ∷ ts) + waiting_of us
-    by true = omega (arith, h)
-    by false = omega (arith, h)
-
-without_fewer : (ts : Threads) (n : ThreadName) → Fewer 0 ts (without_key equal_thread ts n)
-without_fewer [] n = omega arith
-without_fewer (t ∷ ts) n = by (equal_thread t.0 n) (without_fewer ts n)
-  where
-    by : (b : Bool) → Fewer 0 ts (without_key equal_thread ts n) → Fewer 0 (t ∷ ts) (cond b (without_key equal_thread ts n) (t ∷ without_key equal_thread ts n))
-    by true h = gone_fewer t ts (without_key equal_thread ts n) h
-    by false h = front_fewer t ts (without_key equal_thread ts n) 0 h
-
--- a thread that could go on is no more among them
-goes_fewer : (ts : Threads) (n : ThreadName) (old : Stack) → value_of equal_thread ts n ≡ Some (old, Runs) → Fewer 1 ts (without_key equal_thread ts n)
-goes_fewer [] n old at = cc
-goes_fewer (t ∷ ts) n old at = by (equal_thread t.0 n) at (λ h. goes_fewer ts n old h)
-  where
-    first : is_waiting t.1.1 ≡ false → Fewer 1 (t ∷ ts) (without_key equal_thread ts n)
-    first runs = rw runs (let h = without_fewer ts n in omega (arith, h))
-
-    by : (b : Bool) → cond b (Some t.1) (value_of equal_thread ts n) ≡ Some (old, Runs) → (value_of equal_thread ts n ≡ Some (old, Runs) → Fewer 1 ts (without_key equal_thread ts n)) → Fewer 1 (t ∷ ts) (cond b (without_key equal_thread ts n) (t ∷ without_key equal_thread ts n))
-    by true h rest =
-        let state : t.1 ≡ (old, Runs) = cc in
-        first (ap (λ (v : ThreadState). is_waiting v.1) state)
-    by false h rest = front_fewer t ts (without_key equal_thread ts n) 1 (rest h)
-
--- and then, too, one less can go on
-pub away_runs : (s t : Site) (n : ThreadName) (st : Stack) → thread_state s n ≡ Some (st, Runs) → t.threads ≡ without_key equal_thread s.threads n → runnable_count t + 1 ≤ runnable_count s
-away_runs s t n st at is =
-    let h : Fewer 1 s.threads t.threads = subst (Fewer 1 s.threads) (sym is) (goes_fewer s.threads n st at) in
-    let fit = waiting_fit t.threads in
-    let all = waiting_fit s.threads in
-    omega (arith, h)
 
 -- ---- own steps
 

@@ -1,9 +1,8 @@
 -- What the sites told last, and that it is less than 2^64 where the schedule fits memory.
-use Rattle.std.proofs.Common.{arith, ◌≡◌, ◌≢◌, ◌∙◌, sym, ap, refl, subst, ℕ, zero, suc, ◌+◌, ◌<◌, ◌≤◌, List, [], ◌∷◌, ◌++◌, length, length-append, take, get_or, set, replicate, Bool, true, false, cond, ◌⊎◌, inl, inr, get_or-set_same, get_or-set_other}
+use Rattle.std.proofs.Common.{arith, ◌≡◌, ◌≢◌, ◌∙◌, sym, ap, refl, subst, ℕ, zero, suc, ◌+◌, ◌<◌, ◌≤◌, List, [], ◌∷◌, ◌++◌, length, length-append, take, get_or, replicate, Bool, true, false, cond, ◌⊎◌, inl, inr}
 use Rattle.std.specs.Prelude.{Option, Some, None, ◌==◌, reverse}
 use Rattle.std.proofs.lemmas.Bool.{cases_lt}
 use Rattle.std.proofs.lemmas.Grind.{common_steps}
-use Rattle.std.proofs.lemmas.List.{take_more}
 use Rattle.tree_node.specs.declared.names.ThreadName.{ThreadName}
 use Rattle.tree_node.specs.declared.pick.Pick.{Pick}
 use Rattle.tree_node.specs.Assoc.{with_value, without_key, with_optional_value}
@@ -20,9 +19,7 @@ use Rattle.site_model.specs.Site.{Site, runnable_threads, waiting_count}
 use Rattle.site_model.specs.Run.{SiteRun, IsReachedBy, IsEntry}
 use Rattle.world_model.specs.Schedule.{schedule, sum_to}
 use Rattle.world_model.specs.Simulated.{last_ended, last_waiting}
-use Rattle.world_model.proofs.PutLemmas.{nat_decides}
 use Rattle.world_core.specs.Laws.{HasRun, AreMessagesFew}
-use Rattle.world_core.proofs.ScheduleLemmas.{reverse_push}
 use Rattle.world_core.proofs.WorldLemmas.{machine, were_fit, messages_few}
 use Rattle.plain_run.specs.Simulated.{HasMachineRun}
 use Rattle.plain_run.proofs.ProgressLemmas.{sum_fewer, sum_same}
@@ -114,13 +111,6 @@ totals_fit p n j is low high (w, run) =
 
 -- ---- the table of what was told
 
-told_step : (e : Turn) (j : List Turn) (i : ℕ) (b : Bool) → (e.site == i) ≡ b → ◌≡◌ {A = ℕ × ℕ} (last_ended (e ∷ j) i, last_waiting (e ∷ j) i) (cond b (e.ended, e.waiting) (last_ended j i, last_waiting j i))
-told_step e j i true q = rw q refl
-told_step e j i false q = rw q refl
-
-turns_more : (xs : List Turn) (k : ℕ) (x : Turn) → k < length xs → x ≡ get_or xs k x → reverse (take (k + 1) xs) ≡ x ∷ reverse (take k xs)
-turns_more xs k x inside is = ap reverse (take_more xs k x inside ∙ ap (λ (y : Turn). take k xs ++ y ∷ []) (sym is)) ∙ reverse_push (take k xs) x
-
 pub zeros : (n i : ℕ) → ◌≡◌ {A = ℕ × ℕ} (get_or (replicate n (0, 0)) i (0, 0)) (0, 0)
 zeros zero i = refl
 zeros (suc n) zero = refl
@@ -128,27 +118,6 @@ zeros (suc n) (suc i) = zeros n i
 
 abbrev pub IsTable : List (ℕ × ℕ) → List Turn → Type 0
 IsTable told j = (i : ℕ) → i ≤ 64 → ◌≡◌ {A = ℕ × ℕ} (get_or told i (0, 0)) (last_ended j i, last_waiting j i)
-
-pub table_more : (told : List (ℕ × ℕ)) (xs : List Turn) (k : ℕ) (e : Turn) → k < length xs → e ≡ get_or xs k e → length told ≡ 65 → IsTable told (reverse (take k xs)) → e.site ≤ 64 → IsTable (set told e.site (e.ended, e.waiting)) (reverse (take (k + 1) xs))
-table_more told xs k e inside is long old low i high = subst (λ (j : List Turn). ◌≡◌ {A = ℕ × ℕ} (get_or (set told e.site (e.ended, e.waiting)) i (0, 0)) (last_ended j i, last_waiting j i)) (sym (turns_more xs k e inside is)) (by (e.site == i) refl)
-  where
-    by : (b : Bool) → (e.site == i) ≡ b → ◌≡◌ {A = ℕ × ℕ} (get_or (set told e.site (e.ended, e.waiting)) i (0, 0)) (last_ended (e ∷ reverse (take k xs)) i, last_waiting (e ∷ reverse (take k xs)) i)
-    by true q =
-        let same : e.site ≡ i = (nat_decides e.site i).0 q in
-        let fits : e.site < length told = omega arith in
-        subst (λ (x : ℕ). ◌≡◌ {A = ℕ × ℕ} (get_or (set told e.site (e.ended, e.waiting)) x (0, 0)) (e.ended, e.waiting)) same (get_or-set_same told e.site (e.ended, e.waiting) (0, 0) fits) ∙ sym (told_step e (reverse (take k xs)) i true q)
-    by false q =
-        let other : i ≢ e.site = λ same. (let yes : (e.site == i) ≡ true = (nat_decides e.site i).1 (sym same) in cc) in
-        get_or-set_other told e.site i (e.ended, e.waiting) (0, 0) other ∙ old i high ∙ sym (told_step e (reverse (take k xs)) i false q)
-
-pub table_same : (told : List (ℕ × ℕ)) (xs : List Turn) (k : ℕ) (e : Turn) → k < length xs → e ≡ get_or xs k e → IsTable told (reverse (take k xs)) → 64 < e.site → IsTable told (reverse (take (k + 1) xs))
-table_same told xs k e inside is old far i high =
-    subst (λ (j : List Turn). ◌≡◌ {A = ℕ × ℕ} (get_or told i (0, 0)) (last_ended j i, last_waiting j i)) (sym (turns_more xs k e inside is))
-    (old i high ∙ sym (told_step e (reverse (take k xs)) i false (no (e.site == i) refl)))
-  where
-    no : (b : Bool) → (e.site == i) ≡ b → (e.site == i) ≡ false
-    no true q = let same : e.site ≡ i = (nat_decides e.site i).0 q in absurd (omega arith)
-    no false q = q
 
 -- the whole journal
 pub table_whole : (told : List (ℕ × ℕ)) (xs : List Turn) (k : ℕ) (j : List Turn) → length xs ≤ k → reverse xs ≡ j → IsTable told (reverse (take k xs)) → IsTable told j

@@ -1,6 +1,6 @@
 -- What a world tells of an entry made again, as the definitions say it.
 use Rattle.std.proofs.Common.{arith, ◌≡◌, ◌≢◌, ◌∙◌, sym, ap, refl, subst, ℕ, zero, suc, ◌-◌, ◌<◌, ◌≤◌, List, [], ◌∷◌, ◌++◌, length, length-append, reverse, take, drop, get_or, drop-cons, false, inl, inr}
-use Rattle.std.specs.Prelude.{Option, Some, None, true, is_some, Ok, Err, IfErr, OnOk, ◌↔◌, ◌&&◌, not, nat_lt, nat_le, slice_get}
+use Rattle.std.specs.Prelude.{Option, Some, None, true, is_some, Ok, Err, IfErr, OnOk, ◌↔◌, ◌&&◌, not, slice_get}
 use Rattle.std.proofs.lemmas.List.{take-append-drop, length-take, reverse-append}
 use Rattle.kernel_syntax.specs.declared.stmt.Stmt.{Stmt}
 use Rattle.kernel_syntax.specs.Program.{IsProgram}
@@ -9,7 +9,7 @@ use Rattle.site_message.specs.declared.turn.Turn.{Turn}
 use Rattle.site_message.specs.declared.reason.Reason.{Reason}
 use Rattle.site_message.specs.EarlierEnd.{HasNoEarlierEnd}
 use Rattle.site_message.specs.declared.limits.Limits.{Limits}
-use Rattle.site_message.specs.Journal.{end_of, end_by, is_quiet, sent_of, IsTravelling, DeliversOnce, Wired}
+use Rattle.site_message.specs.Journal.{end_of, IsTravelling, DeliversOnce, Wired}
 use Rattle.site_model.specs.Bundle.{bundle_limit}
 use Rattle.site_model.specs.Site.{Site, initial_site}
 use Rattle.site_model.specs.Run.{WorldRun, delivered_message}
@@ -66,30 +66,6 @@ newest (x ∷ xs) t e = by (init_last x xs)
         let both : ◌≡◌ {A = Option Turn} (Some y) (Some t) = sym read ∙ ap (λ (z : List Turn). slice_get z (length (x ∷ xs) - 1)) (sym is) ∙ e in
         let same : y ≡ t = cc in
         (reverse ys, ap (λ (z : List Turn). reverse z) is ∙ reverse-append ys (y ∷ []) ∙ ap (λ (z : Turn). z ∷ reverse ys) same)
-
-none_newest : (ts : List Turn) → slice_get ts (length ts - 1) ≡ None → ts ≡ []
-none_newest [] e = refl
-none_newest (x ∷ xs) e = by (init_last x xs)
-  where
-    by : (ys : List Turn) × (y : Turn) × (x ∷ xs ≡ ys ++ y ∷ []) → x ∷ xs ≡ []
-    by (ys, y, is) =
-        let long : length (x ∷ xs) ≡ length (ys ++ y ∷ []) = ap (λ (z : List Turn). length z) is in
-        let place : length (x ∷ xs) - 1 ≡ length ys = omega (arith, long, length-append ys (y ∷ [])) in
-        let read : slice_get (ys ++ y ∷ []) (length (x ∷ xs) - 1) ≡ Some y = end_read ys y (length (x ∷ xs) - 1) place in
-        let both : ◌≡◌ {A = Option Turn} (Some y) None = sym read ∙ ap (λ (z : List Turn). slice_get z (length (x ∷ xs) - 1)) (sym is) ∙ e in
-        cc
-
-pub ends_by : (l : Limits) (ts j : List Turn) (t : Turn) → reverse ts ≡ j → slice_get ts (length ts - 1) ≡ Some t →
-    end_of l j ≡ end_by (nat_lt l.messages (length (sent_of j))) (nat_le l.steps t.steps && not t.idle) t.site (is_quiet l.sites j)
-ends_by l ts j t is e =
-    let n = newest ts t e in
-    let at : j ≡ t ∷ n.0 = sym is ∙ n.1 in
-    subst (λ (k : List Turn). end_of l k ≡ end_by (nat_lt l.messages (length (sent_of k))) (nat_le l.steps t.steps && not t.idle) t.site (is_quiet l.sites k)) (sym at) refl
-
-pub ends_not : (l : Limits) (ts j : List Turn) → reverse ts ≡ j → slice_get ts (length ts - 1) ≡ None → end_of l j ≡ None
-ends_not l ts j is e =
-    let at : j ≡ [] = sym is ∙ ap (λ (z : List Turn). reverse z) (none_newest ts e) in
-    subst (λ (k : List Turn). end_of l k ≡ None) (sym at) refl
 
 -- ---- one entry
 
@@ -190,15 +166,6 @@ stops_wrong r at m (inl h) k q = let both : ◌≡◌ {A = Made} made.Memory (ma
 stops_wrong r at m (inr h) k q = let both : ◌≡◌ {A = Made} (made.Wrong at) (made.Wrong k) = sym h.1 ∙ q in (h.0, cc)
 
 -- ---- entries, one after another
-
--- none at the start
-pub made_none : (p : List Stmt) (l : Limits) (w : WorldState) → w.program ≡ p → w.sites ≡ l.sites → w.spent ≡ false → w.journal ≡ [] → ((i : ℕ) → states_of w i ≡ initial_site p l.sites i) → HasMade p l [] w
-made_none p l w program sites live new start = record {
-  program = program;
-  sites = sites;
-  live = live;
-  again = subst (λ (j : List Turn). AreMadeAgain p l j [] (states_of w)) (sym new) (refl, start);
-}
 
 -- one more
 pub made_next : (p : List Stmt) (l : Limits) (es more : List Entry) (e : Entry) (w v : WorldState) → HasMade p l es w → IsNext l w v e → v.program ≡ w.program → v.sites ≡ w.sites → v.spent ≡ false → more ≡ es ++ e ∷ [] → HasMade p l more v

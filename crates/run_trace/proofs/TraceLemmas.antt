@@ -1,9 +1,8 @@
 -- What is kept of a run goes on to be that of its picks.
-use Rattle.std.proofs.Common.{◌≡◌, ◌≢◌, ◌∙◌, sym, ap, refl, subst, ℕ, length, List, [], ◌∷◌, ◌++◌, ◌⊎◌, inl, inr, Bool, true, false, cond, Some, None}
+use Rattle.std.proofs.Common.{◌≡◌, ◌≢◌, ◌∙◌, sym, ap, refl, subst, ℕ, length, List, [], ◌∷◌, ◌++◌, ◌⊎◌, inl, inr, Bool, true, false, Some, None}
 use Rattle.std.specs.Prelude.{Option, IsSome, option_to_list, unwrap_or}
 use Rattle.tree_node.specs.declared.names.ThreadName.{ThreadName}
 use Rattle.tree_node.specs.declared.names.VarName.{VarName}
-use Rattle.tree_node.specs.declared.item.Item.TheVariants.{Run as Runs, Goals, Mark, Report}
 use Rattle.tree_node.specs.declared.pick.Pick.{Pick}
 use Rattle.tree_node.specs.Assoc.{value_of}
 use Rattle.tree_node.specs.State.{Stack, State, equal_thread}
@@ -22,20 +21,12 @@ use Rattle.run_trace.specs.Births.{birth_of, birth_in, births}
 use Rattle.run_trace.specs.Begun.{begun_on, begun_with, begun_from, begun, last_begun}
 use Rattle.run_trace.specs.Kept.{entry_of, AreLast, IsTraced, raised_at, thread_name}
 use Rattle.run_trace.specs.Raised.{is_caught, raise_of, raise_in, raises, raised_on}
-use Rattle.run_trace.proofs.BegunLemmas.{last_here}
 use Rattle.run_trace.proofs.BirthLemmas.{births_go_on, pick_names}
 use Rattle.run_trace.proofs.ReportLemmas.{IsBehind, IsGood, good_more, stack_behind, start_good}
 use Rattle.run_trace.proofs.SnocLemmas.{begun_goes_on, raises_go_on}
 use Rattle.run_trace.proofs.TellLemmas.{pick_tells}
 
 -- ---- what threads began
-
--- what the next step of a thread begins is kept for it
-pub begins_kept : (es fs : List (ThreadName × Begun)) (given : List Begun) (n : ThreadName) (stack : Stack) (b : Begun) → begun_on n stack ≡ Some b → AreLast es given →
-    ((m : ThreadName) → entry_of fs m ≡ cond (equal_thread b.thread m) (Some b) (entry_of es m)) → AreLast fs (option_to_list (begun_on n stack) ++ given)
-begins_kept es fs given n stack b is kept put m =
-    put m ∙ (ap (λ (o : Option Begun). cond (equal_thread b.thread m) (Some b) o) (kept m)
-    ∙ ap (λ (o : Option Begun). last_begun (option_to_list o ++ given) m) (sym is))
 
 -- and where it begins nothing, nothing is
 pub none_kept : (es : List (ThreadName × Begun)) (given : List Begun) (n : ThreadName) (stack : Stack) → begun_on n stack ≡ None → AreLast es given → AreLast es (option_to_list (begun_on n stack) ++ given)
@@ -64,17 +55,6 @@ has_begun p ks s n run lives = go ((good_run p ks s run).began n)
     go : (stack_of s n ≡ []) ⊎ ((b : Begun) × (last_begun (begun_with s n (begun p ks)) n ≡ Some b)) → (b : Begun) × (last_begun (begun_with s n (begun p ks)) n ≡ Some b)
     go (inl e) = absurd (lives_on p ks s n run lives e)
     go (inr h) = h
-
--- the statement on top is the one that it goes on with
-pub top_is_last : (n : ThreadName) (stack : Stack) (before : List Begun) (b : Begun) → begun_on n stack ≡ Some b → last_begun (option_to_list (begun_on n stack) ++ before) n ≡ Some b
-top_is_last n stack before b is = go stack is
-  where
-    go : (st : Stack) → begun_on n st ≡ Some b → last_begun (option_to_list (begun_on n st) ++ before) n ≡ Some b
-    go [] h = cc
-    go (Goals g ∷ rest) h = cc
-    go (Mark code at env ∷ rest) h = cc
-    go (Report x ∷ rest) h = cc
-    go (Runs code env ∷ rest) h = last_here n code env rest before ∙ h
 
 -- where none is on top it is the one kept
 pub kept_is_last : (n : ThreadName) (stack : Stack) (es : List (ThreadName × Begun)) (before : List Begun) (o : Option Begun) → begun_on n stack ≡ None → AreLast es before → o ≡ entry_of es n →

@@ -50,10 +50,6 @@ order_each P (e ∷ es) h = put_each P e (ascending es) h.0 (order_each P es h.1
 pub bundle_known : (limit : ℕ) (s : Store) (m : Msg) → Each (Contains s) (bundle_of limit s m)
 bundle_known limit s m = order_each (Contains s) _ (each_take (Contains s) limit (reachable_equations s (bundle_roots m)) (own_known s _))
 
--- none without room
-pub no_bundle : (s : Store) (m : Msg) → bundle_of 0 s m ≡ []
-no_bundle s m = refl
-
 -- ---- lists of equations
 
 pub equations_append : (es fs : List Equation) → vars_of_equations (es ++ fs) ≡ vars_of_equations es ++ vars_of_equations fs

@@ -1,14 +1,13 @@
 -- The messages of a unit or a row get their bundles at its end.
 use Rattle.std.proofs.Common.{arith, ◌≡◌, ◌∙◌, sym, ap, subst, ℕ, List, [], ◌∷◌, ◌++◌, length, take, drop}
 use Rattle.std.specs.Prelude.{◌+◌, ◌≤◌, reverse}
-use Rattle.std.proofs.lemmas.List.{append-nil, append_assoc, reverse-append, take_at, drop_at, take_all, drop_all, length_push}
+use Rattle.std.proofs.lemmas.List.{append-nil, take_at, drop_at, length_push}
 use Rattle.tree_node.specs.Store.{Store}
-use Rattle.tree_node.specs.declared.names.ThreadName.{ThreadName}
 use Rattle.kernel_syntax.specs.declared.stmt.Stmt.{Stmt}
 use Rattle.site_message.specs.declared.message.Msg.{Msg}
 use Rattle.site_message.specs.declared.message.Sent.{Sent}
 use Rattle.site_model.specs.Bundle.{bundle_limit, with_own_bundle, with_own_bundles}
-use Rattle.site_model.specs.Laws.{with_bundles, RowsFillLast, UnitsFillLast}
+use Rattle.site_model.specs.Laws.{with_bundles, RowsFillLast}
 use Rattle.site_model.specs.Messages.{message_row}
 use Rattle.site_model.specs.Site.{Site}
 use Rattle.site_model.specs.Transition.{Transition}
@@ -16,7 +15,7 @@ use Rattle.site_units.specs.declared.data.Core.{Core}
 use Rattle.site_units.specs.declared.data.Output.{Output}
 use Rattle.site_units.specs.Core.{site_of}
 use Rattle.site_units.specs.Turns.{IsRowMade}
-use Rattle.site_units.specs.Units.{IsTransitionMade, IsUnitMade, IsUnitPacked}
+use Rattle.site_units.specs.Units.{IsTransitionMade}
 
 -- ---- the last messages are taken out, the last one first
 
@@ -29,26 +28,6 @@ pub record PackedSoFar (s : Store) (old now packed : List Sent) (taken : ℕ) : 
 
 pub none_packed : (s : Store) (old packed : List Sent) → packed ≡ [] → PackedSoFar s old old packed 0
 none_packed s old packed is = record { rest = []; split = sym (append-nil old); reversed = ap (λ (l : List Sent). reverse l) is; left = omega arith }
-
-pub one_packed : (s : Store) (old now less packed : List Sent) (m : Sent) (taken : ℕ) → PackedSoFar s old now packed taken → now ≡ less ++ m ∷ [] → PackedSoFar s old less (packed ++ with_own_bundle bundle_limit s m ∷ []) (taken + 1)
-one_packed s old now less packed m taken h is = record {
-  rest = m ∷ h.rest;
-  split = h.split ∙ (ap (λ (l : List Sent). l ++ h.rest) is ∙ append_assoc less (m ∷ []) h.rest);
-  reversed = reverse-append packed (with_own_bundle bundle_limit s m ∷ []) ∙ ap (λ (l : List Sent). with_own_bundle bundle_limit s m ∷ l) h.reversed;
-  left = let e : length now ≡ length less + 1 = ap length is ∙ length_push less m in let f : length now + taken ≡ length old = h.left in omega arith;
-}
-
-pub rest_left : (s : Store) (old now packed : List Sent) (taken from : ℕ) → PackedSoFar s old now packed taken → taken + from ≡ length old → now ≡ take from old
-rest_left s old now packed taken from h all =
-    let f : length now + taken ≡ length old = h.left in
-    let e : length now ≡ from = omega arith in
-    sym (take_at now h.rest from e) ∙ ap (take from) (sym h.split)
-
-pub rest_packed : (s : Store) (old now packed : List Sent) (taken from : ℕ) → PackedSoFar s old now packed taken → taken + from ≡ length old → reverse packed ≡ with_own_bundles bundle_limit s (drop from old)
-rest_packed s old now packed taken from h all =
-    let f : length now + taken ≡ length old = h.left in
-    let e : length now ≡ from = omega arith in
-    h.reversed ∙ ap (with_own_bundles bundle_limit s) (sym (drop_at now h.rest from e) ∙ ap (drop from) (sym h.split))
 
 -- there is one
 pub one_behind : (s : Store) (old less : List Sent) (m : Sent) (from : ℕ) → old ≡ less ++ m ∷ [] → from + 1 ≡ length old →
@@ -63,10 +42,6 @@ one_behind s old less m from is one = sym (ap (λ (l : List Sent). l ++ with_own
 
     behind : drop from old ≡ m ∷ []
     behind = ap (drop from) is ∙ drop_at less (m ∷ []) from as_many
-
--- there are none
-pub nothing_packed : (s : Store) (old : List Sent) (from : ℕ) → length old ≤ from → old ≡ take from old ++ with_own_bundles bundle_limit s (drop from old)
-nothing_packed s old from past = sym (ap (λ (l : List Sent). l ++ with_own_bundles bundle_limit s (drop from old)) (take_all from old past) ∙ (ap (λ (l : List Sent). old ++ with_own_bundles bundle_limit s l) (drop_all from old past) ∙ append-nil old))
 
 -- ---- a unit, a row
 
@@ -90,11 +65,6 @@ packed_reached p d c0 c1 o0 o1 o2 from h at sent picks lines = record {
 
     same : with_own_bundles bundle_limit c1.variables.store.equations (drop from o1.sent) ≡ with_own_bundles bundle_limit d.site.equations d.sent
     same = ap (λ (s : Site). with_own_bundles bundle_limit s.equations (drop from o1.sent)) h.site ∙ ap (with_own_bundles bundle_limit d.site.equations) behind
-
-pub unit_packed : UnitsFillLast → (p : List Stmt) (th : ThreadName) (c0 c1 : Core) (o0 o1 o2 : Output) (from : ℕ) → IsUnitMade p th c0 o0 c1 o1 → length o0.sent ≡ from →
-    o2.sent ≡ take from o1.sent ++ with_own_bundles bundle_limit c1.variables.store.equations (drop from o1.sent) → o2.picks ≡ o1.picks → o2.lines ≡ o1.lines → IsUnitPacked p th c0 o0 c1 o2
-unit_packed law p th c0 c1 o0 o1 o2 from (d, unit, reached) at sent picks lines =
-    (with_bundles bundle_limit d, law p c0.sites bundle_limit th (site_of c0) d unit, packed_reached p d c0 c1 o0 o1 o2 from reached at sent picks lines)
 
 pub row_packed : RowsFillLast → (p : List Stmt) (m : Msg) (c0 c1 : Core) (o0 o1 o2 : Output) (from : ℕ) → IsRowMade p (message_row p 0 m) c0 o0 c1 o1 → length o0.sent ≡ from →
     o2.sent ≡ take from o1.sent ++ with_own_bundles bundle_limit c1.variables.store.equations (drop from o1.sent) → o2.picks ≡ o1.picks → o2.lines ≡ o1.lines → IsRowMade p (message_row p bundle_limit m) c0 o0 c1 o2

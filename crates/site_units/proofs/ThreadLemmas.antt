@@ -52,18 +52,6 @@ some_there o w e = rw e refl
 
 -- ---- another thread
 
-pub other_value : {W : Type 0} (ts : List (ThreadName × W)) (n m : ThreadName) (w : W) → n ≢ m → value_of equal_thread (with_value equal_thread ts n w) m ≡ value_of equal_thread ts m
-other_value [] n m w apart = refl
-other_value {W} (t ∷ ts) n m w apart = go (equal_thread t.0 n) refl (other_value ts n m w apart)
-  where
-    go : (b : Bool) → equal_thread t.0 n ≡ b → value_of equal_thread (with_value equal_thread ts n w) m ≡ value_of equal_thread ts m →
-        value_of equal_thread (cond b ((n, w) ∷ ts) (t ∷ with_value equal_thread ts n w)) m ≡ cond (equal_thread t.0 m) (Some t.1) (value_of equal_thread ts m)
-    go true q ih =
-        let same : t.0 ≡ n = (same_thread_decides t.0 n).0 q in
-        let apart_too : t.0 ≢ m = λ e. apart (sym same ∙ e) in
-        rw (is_other n m apart, is_other t.0 m apart_too) refl
-    go false q ih = ap (λ (o : Option W). cond (equal_thread t.0 m) (Some t.1) o) ih
-
 abbrev pub running_or : Running → Option (Running × Mode) → Running
 running_or r None = r
 running_or r (Some v) = v.0

@@ -103,10 +103,6 @@ no_units p c o h ready = record {
   steps = omega arith;
 }
 
-pub length_end : {X : Type 0} (xs : List X) (x : X) → length (xs ++ x ∷ []) ≡ suc (length xs)
-length_end [] x = refl
-length_end (y ∷ xs) x = ap suc (length_end xs x)
-
 -- ---- rest
 
 pub waiting_seen : (ts : List (Entry Running)) → waiting_of (stacks_of stack_in ts) ≡ waiting_of ts

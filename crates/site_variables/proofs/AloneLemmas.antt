@@ -1,7 +1,7 @@
 -- Own variables for which no site is registered are bound, one after another; and those that were bound before others were made.
 use Rattle.std.proofs.Common.{◌≡◌, ◌≢◌, ◌∙◌, sym, ap, refl, subst, ℕ, ◌+◌, ◌<◌, ◌≤◌, List, [], ◌∷◌, ◌⊎◌, inl, inr, map, drop, length, get_or, Bool, true, false, cond, Some, None}
 use Rattle.std.specs.Prelude.{Option}
-use Rattle.std.proofs.lemmas.List.{drop_more, drop_all}
+use Rattle.std.proofs.lemmas.List.{drop_more}
 use Rattle.tree_node.specs.declared.names.VarName.{VarName}
 use Rattle.tree_node.specs.declared.node.Term.{Term}
 use Rattle.tree_node.specs.Each.{Each, AreDistinct}
@@ -63,9 +63,6 @@ pub record AreFollowed (b old : Records) (rest all : List Equation) : Type 0 whe
   pub unbound : AreOwnBinds b rest
   pub after : after_own_binds b rest ≡ after_own_binds old all
 
-pub all_follow : (b : Records) (es : List Equation) → AreAloneBinds b es → AreOwnBinds b es → AreFollowed b b es es
-all_follow b es h g = record { alone = h; unbound = g; after = refl }
-
 module _ (old b : Records) (bs : List Bind) (i : ℕ) (d : Bind) (below : i < length bs) (at : d ≡ get_or bs i d) (h : AreFollowed b old (map equation_of (drop i bs)) (map equation_of bs)) where
   split : drop i bs ≡ d ∷ drop (i + 1) bs
   split = drop_more bs i d below ∙ ap (λ (x : Bind). x ∷ drop (i + 1) bs) (sym at)
@@ -85,9 +82,6 @@ module _ (old b : Records) (bs : List Bind) (i : ℕ) (d : Bind) (below : i < le
   pub next_follows : (c : Records) → c ≡ after_ask b d.var d.term → AreFollowed c old (map equation_of (drop (i + 1) bs)) (map equation_of bs)
   next_follows c is = subst (λ (r : Records). AreFollowed r old (map equation_of (drop (i + 1) bs)) (map equation_of bs)) (sym is)
       (record { alone = alone_behind b d.var d.term (map equation_of (drop (i + 1) bs)) now.alone.1; unbound = now.unbound.2; after = now.after })
-
-pub none_follow : (b old : Records) (bs : List Bind) (i : ℕ) → length bs ≤ i → AreFollowed b old (map equation_of (drop i bs)) (map equation_of bs) → b ≡ after_own_binds old (map equation_of bs)
-none_follow b old bs i past h = subst (λ (l : List Bind). after_own_binds b (map equation_of l) ≡ after_own_binds old (map equation_of bs)) (drop_all i bs past) h.after
 
 -- ---- a bind before variables were made, and behind them
 

@@ -1,5 +1,5 @@
 -- The rows of variables on a site with these parts.
-use Rattle.std.proofs.Common.{◌+◌, ◌<◌, length, take, get_or, append_assoc, add-one, ◌≡◌, ◌≢◌, ◌∙◌, sym, ap, refl, subst, ℕ, List, [], ◌∷◌, ◌++◌, map, ◌⊎◌, inl, inr, Bool, true, false}
+use Rattle.std.proofs.Common.{◌+◌, ◌<◌, length, take, get_or, append_assoc, add-one, ◌≡◌, ◌≢◌, ◌∙◌, sym, ap, refl, subst, ℕ, List, [], ◌∷◌, ◌++◌, map, ◌⊎◌, Bool, true, false}
 use Rattle.std.specs.Prelude.{Option, Some, None}
 use Rattle.std.proofs.lemmas.List.{append-nil}
 use Rattle.std.proofs.Math.Seq.{take-suc}
@@ -45,26 +45,11 @@ stacks_bound {V} g s r x old new alike e =
 
 -- ---- an equation that is told
 
-kept_as : (o : Bool) (k : Option (Option Term)) (s : Site) (x : VarName) (t : Term) → (o ≡ true) ⊎ ((r : Term) × (k ≡ Some (Some r))) → with_known_equation_as o k s x t ≡ s
-kept_as true k s x t h = refl
-kept_as false k s x t (inl e) = cc
-kept_as false None s x t (inr h) = let e = h.1 in cc
-kept_as false (Some None) s x t (inr h) = let e = h.1 in cc
-kept_as false (Some (Some r)) s x t (inr h) = refl
-
 new_as : (o : Bool) (k : Option (Option Term)) (s : Site) (x : VarName) (t : Term) → o ≡ false → ((r : Term) → k ≡ Some (Some r) → ⊥) → with_known_equation_as o k s x t ≡ with_new_equation s x t
 new_as true k s x t e h = cc
 new_as false None s x t e h = refl
 new_as false (Some None) s x t e h = refl
 new_as false (Some (Some r)) s x t e h = absurd (h r refl)
-
--- nothing changes
-pub done_kept : (p : Parts) (x : VarName) (t : Term) → p.sent ≡ [] → (is_own p.records x ≡ true) ⊎ ((r : Term) × (knowledge p.records x ≡ Some (Some r))) → IsVariableRow (λ s. without_output (with_known_equation s x t)) [] p p
-done_kept p x t none h = record {
-  more = [];
-  sent = sym (append-nil p.sent);
-  done = λ s. ap without_output (kept_as (is_own p.records x) (knowledge p.records x) (with_parts s p) x t h);
-}
 
 -- it is known from now on
 pub done_learnt : (p q : Parts) (x : VarName) (t : Term) → is_own p.records x ≡ false → ((r : Term) → knowledge p.records x ≡ Some (Some r) → ⊥) →
@@ -100,18 +85,6 @@ done_registered p q x k a b c d = record {
   more = register_sends p.records x k;
   sent = d;
   done = λ s. rw (a, b, c, answer_unbundled p.equations (owner_of p.records.owners x) x k) refl;
-}
-
-late_as : (k : Option (Option Term)) (x : VarName) (t : Term) (n : ThreadName) (s : Site) → k ≢ Some None → bind_request_as k 0 x t n s ≡ without_output s
-late_as None x t n s h = refl
-late_as (Some None) x t n s h = absurd (h refl)
-late_as (Some (Some r)) x t n s h = refl
-
-pub done_late : (p : Parts) (x : VarName) (t : Term) (n : ThreadName) → knowledge p.records x ≢ Some None → IsVariableRow (bind_request_row 0 x t n) [] p p
-done_late p x t n h = record {
-  more = [];
-  sent = sym (append-nil p.sent);
-  done = λ s. late_as (knowledge p.records x) x t n (with_parts s p) h;
 }
 
 taken_as : (k : Option (Option Term)) (x : VarName) (t : Term) (n : ThreadName) (s : Site) → k ≡ Some None → bind_request_as k 0 x t n s ≡ and_then (with_pick s (bind_pick n x t)) (own_bind 0 x t)

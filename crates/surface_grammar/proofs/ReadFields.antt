@@ -8,7 +8,7 @@ use Rattle.tree_node.specs.Node.{feature_cmp}
 use Rattle.tree_node.specs.Goal.{equal_feature}
 use Rattle.tree_node.proofs.BoolLemmas.{exchange}
 use Rattle.kernel_syntax.specs.declared.sugar.Field.{Field}
-use Rattle.kernel_syntax.specs.Sugar.{Value, Values, field_of}
+use Rattle.kernel_syntax.specs.Sugar.{Value, Values}
 use Rattle.oz_grammar.specs.declared.symbol.Symbol.{Symbol}
 use Rattle.oz_grammar.specs.declared.symbol.Symbol.TheVariants as t
 use Rattle.oz_grammar.specs.declared.fault.Fault.{Fault}
@@ -18,13 +18,13 @@ use Rattle.oz_grammar.specs.declared.fault.What.{What}
 use Rattle.oz_grammar.specs.declared.fault.What.TheVariants as what
 use Rattle.oz_grammar.specs.Grammar.{AtomFeature, IntFeature}
 use Rattle.oz_grammar.specs.Scoping.{Scope, feature_of, place_feature, with_field}
-use Rattle.oz_grammar.specs.Faults.{or_else, where_so, where_not, room_fault, fewer, fault_here, mismatch}
+use Rattle.oz_grammar.specs.Faults.{or_else, where_so, room_fault, fewer, fault_here, mismatch}
 use Rattle.oz_grammar.specs.Check.{first_fault}
 use Rattle.oz_grammar.specs.Reading.{◌>>=◌, fault_or, close_at, is_close_round}
 use Rattle.oz_grammar.specs.Table.{features_in}
 use Rattle.surface_grammar.specs.Points.{Whole, Point, ValueOf, FieldOf, Wanted, next_primary, value_fault, is_given, given_fault, argument_fault, behind_placed, run}
 use Rattle.surface_grammar.specs.Points as points
-use Rattle.surface_grammar.specs.Trees.{with_last, with_value}
+use Rattle.surface_grammar.specs.Trees.{with_last}
 use Rattle.surface_grammar.specs.Reading.{Read, wanted_at, is_close, arguments_at, FieldsSoFar, with_one, named_at, placed_at, field_at, fields_at, value_with}
 use Rattle.surface_grammar.proofs.Starts.{is_no_colon, is_first, first_whole, begins_by, then_both, argument_next, argument_wrong_is, field_begins}
 use Rattle.surface_grammar.proofs.ReadSteps.{IsReadFrom, any, bind}
@@ -91,10 +91,6 @@ argument_at scope d nth most symbols σ o = record {
   cases = λ rest e. refl;
   part = λ c. record { begins = argument_begins scope d nth most symbols σ; refuses = argument_refuses scope d nth most symbols σ o c };
 }
-
-by_room : (b : Bool) → where_not b Wide ≡ cond b None (Some Wide)
-by_room true = refl
-by_room false = refl
 
 -- one more of so many has room, or not
 pub argument_room : (nth room most : ℕ) → nth + room ≡ most → argument_fault nth most ≡ room_fault room
@@ -185,9 +181,6 @@ given_slot f p ((h, q) ∷ slots) g =
       | true ↦ refl
       | false ↦ ap (λ (b : Bool). equal_feature h g || b) (given_slot f p slots g) ∙ exchange (equal_feature h g) (equal_feature f g) (is_given (features_in slots) g)
     ] in chosen (is_lt (feature_cmp f h))
-
-pub same_slots : (before : List Feature) (m : FieldsSoFar) (f : Feature) (v : Value) (i nth : ℕ) → Same before m → Same (f ∷ before) (with_field f (field_of v i) m.0, with_value m.1 v, nth)
-same_slots before m f v i nth same g = ap (λ (b : Bool). equal_feature f g || b) (same g) ∙ sym (given_slot f (field_of v i) m.0 g)
 
 pub same_more : (before : List Feature) (m : FieldsSoFar) (f : Feature) (v : Value) (nth : ℕ) → Same before m → Same (f ∷ before) (with_one f v nth m)
 same_more before m f v nth same g = ap (λ (b : Bool). equal_feature f g || b) (same g) ∙ sym (given_slot f _ m.0 g)

@@ -20,12 +20,12 @@ use Rattle.oz_grammar.specs.Reading.{◌>>=◌, selection_at, is_close_round}
 use Rattle.oz_grammar.proofs.FieldOrder.{stopped, or_neither}
 use Rattle.oz_grammar.proofs.PartsChecked.{passes}
 use Rattle.surface_grammar.specs.declared.parts.Callable.{Callable}
-use Rattle.surface_grammar.specs.Derivations.{Primary, Variable, Integer, Atom, Record, Calls, Procedure, Function, Brackets, Selects, Alone, Calculates, Tests, Pairs, IfValue, CaseValue, primary_text, value_text, begins_round, StaysBare, ValueDerives}
+use Rattle.surface_grammar.specs.Derivations.{Primary, Variable, Integer, Atom, Record, Calls, Procedure, Function, Brackets, Selects, Alone, Calculates, Tests, Pairs, IfValue, CaseValue, primary_text, value_text, begins_round}
 use Rattle.surface_grammar.specs.Derivations as tree
 use Rattle.surface_grammar.specs.Points.{formal_wrong, argument_fault, given_fault, named_fault}
 use Rattle.surface_grammar.specs.Check.{check_formals, check_primary, check_value}
-use Rattle.surface_grammar.specs.Trees.{with_last, with_value, value_in}
-use Rattle.surface_grammar.specs.Reading.{Read, ValueReader, Readers, on_level, is_close, arguments_at, FieldsSoFar, with_one, placed_at, field_at, fields_at, atom_at, formals_at, selections_at, part_at, behind_head_at, behind_part_at, value_at, value_with}
+use Rattle.surface_grammar.specs.Trees.{with_last, with_value}
+use Rattle.surface_grammar.specs.Reading.{Read, ValueReader, Readers, on_level, is_close, arguments_at, FieldsSoFar, with_one, placed_at, field_at, fields_at, atom_at, formals_at, selections_at, part_at, behind_head_at, behind_part_at, value_at}
 use Rattle.surface_grammar.proofs.Starts.{stops, is_no_colon, is_no_dot}
 use Rattle.surface_grammar.proofs.ReadFields.{Same, same_fault, argument_room}
 
@@ -47,12 +47,6 @@ formals_checked (x ∷ xs) before c rest behind e =
     passes (formal_wrong c before x) _ _ s.0 ∙ formals_checked xs (before ++ x ∷ []) c rest behind s.1 ∙ rw (append_assoc before (x ∷ []) xs) refl
 
 -- ---- values and arguments
-
--- a value is read as its tree, with d levels, where it ends and passes
-abbrev pub ValueIs : ℕ → Type 0
-ValueIs d =
-    (v : tree.Value) (scope : Scope) (holder : Option FaultKind) (w : What) (rest : List Symbol) (behind : Option Fault) → ValueDerives v scope → check_value v scope d holder rest behind ≡ None → stops rest ≡ true → StaysBare v rest
-    → value_with d scope holder w (value_text v rest) ≡ Ok (value_in v scope rest, rest)
 
 -- values behind others
 abbrev pub behind_values : Values → Values → Values

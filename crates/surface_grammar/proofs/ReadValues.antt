@@ -283,10 +283,6 @@ ends_here Rest scope d r (s ∷ rest) (p ∷ σ) o e = refl
 ended : (extent : Extent) (scope : Scope) (d r : ℕ) (v : Value) (n : ℕ) (symbols : List Symbol) (σ : List Point) → is_done σ ≡ false → goes_on extent symbols ≡ false → length symbols ≤ n → IsReadFrom n symbols (Behind extent scope d r ∷ σ) (Ok (v, symbols)) any (λ x. σ)
 ended extent scope d r v n symbols σ o e le = record { reads = ends_here extent scope d r symbols σ o e; good = (le, tt) }
 
-is_bar : List Symbol → Bool
-is_bar (t.Bar ∷ rest) = true
-is_bar symbols = false
-
 -- the bar behind the first part of a list, and the tail
 bar_read : (d : ℕ) (inner : ReadsBelow d) (extent : Extent) (scope : Scope) (left : ℕ) (v : Value) (r n : ℕ) (rest : List Symbol) (σ : List Point) → r ≤ d → is_done σ ≡ false → length rest ≤ n
     → run (t.Bar ∷ rest) (Behind extent scope d r ∷ σ) ≡ first_fault (deep_fault r) (t.Bar ∷ rest) (run rest (TailOf scope (fewer d) ∷ σ)) → IsReadFrom n (t.Bar ∷ rest) (Behind extent scope d r ∷ σ) (behind_head_at (below d) scope left (v, r) (t.Bar ∷ rest)) any (λ x. σ)

@@ -391,9 +391,6 @@ kept_rest {V} slots by_name queue rest waiting_keys a b (front, e, still) h = go
     go [] s k = k
     go (j ∷ js) s k = go js s.1 (kept_pop slots by_name (j ∷ (js ++ rest)) (js ++ rest) waiting_keys a b j k refl s.0)
 
-pub rest_same : {V : Type 0} (slots : List (Slot V)) (queue : List ℕ) → IsRest slots queue queue
-rest_same slots queue = ([], refl, tt)
-
 append_one : (js rest : List ℕ) (j : ℕ) → js ++ j ∷ rest ≡ (js ++ j ∷ []) ++ rest
 append_one [] rest j = refl
 append_one (i ∷ js) rest j = ap (λ (l : List ℕ). i ∷ l) (append_one js rest j)

@@ -22,9 +22,6 @@ use Rattle.thread_roster.specs.Parking.{HasMoreKeys, keys_for}
 abbrev pub Filed : Type 0
 Filed = List (VarName × List ℕ)
 
-pub same_keys : (old : Filed) (key : ℕ) → HasMoreKeys (keys_among old) key (keys_among old)
-same_keys old key = record { kept = λ y j k. k; only = λ y j k. inl k }
-
 pub more_on : (a b c : Filed) (key : ℕ) → HasMoreKeys (keys_among a) key (keys_among b) → HasMoreKeys (keys_among b) key (keys_among c) → HasMoreKeys (keys_among a) key (keys_among c)
 more_on a b c key f g = record { kept = λ y j k. g.kept y j (f.kept y j k); only = λ y j k. go y j (g.only y j k) }
   where

@@ -4,7 +4,7 @@ use Rattle.std.specs.Prelude.{Bool, true, false, ◌==◌}
 use Rattle.std.specs.Bool.{Decides}
 use Rattle.tree_node.specs.declared.names.VarName.{VarName}
 use Rattle.token_chain.specs.declared.token.Token.TheVariants.{Away, Asked, Here}
-use Rattle.token_chain.specs.Holding.{Holding, here_with}
+use Rattle.token_chain.specs.Holding.{Holding}
 use Rattle.token_chain.specs.Mail.{Mail, Get, Forward, Put, equal_mail}
 use Rattle.token_chain.specs.Chain.{IsOn, IsFirst, IsNext, HasToken, HasSuccessor, IsDue, IsChain}
 use Rattle.token_chain.proofs.ListLemmas.{on_cases}
@@ -82,9 +82,6 @@ due_kept at to hs v (Forward a b) e d = (d.0, next_of _ _ e ∙ d.1)
 due_kept at to hs v (Put h w) e d = (d.0, token_of _ _ e ∙ d.1, d.2)
 
 -- ---- what a chain says
-
-made_here : (at : ℕ → Holding) (h : ℕ) (v : VarName) → at h ≡ here_with v → (at h).token ≡ Here v
-made_here at h v e = token_of _ _ e
 
 pub first_used : (at : ℕ → Holding) (n : Mail → ℕ) (v : VarName) (h : ℕ) → HasToken at n v h → (at h).token ≢ Away
 first_used at n v h (inl e) d = let f : (at h).token ≡ Here v = token_of _ _ e in cc

@@ -1,5 +1,5 @@
 -- A comparison that goes on from where it stopped.
-use Rattle.std.proofs.Common.{arith, ◌≡◌, ◌∙◌, sym, ap, refl, subst, ℕ, suc, ◌+◌, ◌<◌, ◌≤◌, ◌-◌, List, [], ◌∷◌, ◌++◌, length, map, take, reverse, Bool, true, false, None, Some, cond}
+use Rattle.std.proofs.Common.{arith, ◌≡◌, ◌∙◌, sym, ap, refl, subst, ℕ, suc, ◌+◌, ◌<◌, ◌≤◌, ◌-◌, List, [], ◌∷◌, ◌++◌, length, map, take, reverse, Bool, true, false, None, Some}
 use Rattle.std.specs.Prelude.{slice_get}
 use Rattle.std.specs.Map.{lookup}
 use Rattle.std.proofs.Math.Seq.{take-append_seam}
@@ -10,7 +10,7 @@ use Rattle.tree_node.specs.Store.{Equation, Store, IsSound, equal_var, root_of}
 use Rattle.tree_node.specs.Compare.{Pair, Relation, relation, parts_of, with_new, IsMatched, IsWithin, is_apart, open_roots, compared, unless_open, Different}
 use Rattle.tree_node.specs.ClassPairs.{equal_pair, roots, leads_to, all_new}
 use Rattle.tree_node.proofs.SoundLemmas.{root_root}
-use Rattle.tree_node.proofs.CompareLemmas.{relation_roots, same_pair_decides}
+use Rattle.tree_node.proofs.CompareLemmas.{relation_roots}
 use Rattle.tree_node.proofs.CompareLaws.{more_is_within}
 use Rattle.tree_node.proofs.ClassLemmas.{Contains-tail}
 use Rattle.tree_node.proofs.BreadthLemmas.{front_length, front_take, all_new_front}
@@ -128,24 +128,6 @@ fronts_none s p f e = cc
 
 pub fronts_stay : (s t : Store) (fronts : List (Pair × Front)) → IsWithin s t → AreFronts s fronts → AreFronts t fronts
 fronts_stay s t fronts more h p f e = stays (h p f e) more
-
-pub fronts_less : (s : Store) (fronts rest : List (Pair × Front)) (q : Pair) → AreFronts s fronts → ((p : Pair) → lookup (equal_pair p) rest ≡ cond (equal_pair q p) None (lookup (equal_pair p) fronts)) → AreFronts s rest
-fronts_less s fronts rest q h is p f e = go (equal_pair q p) (sym (is p) ∙ e)
-  where
-    go : (b : Bool) → cond b None (lookup (equal_pair p) fronts) ≡ Some f → IsMatchedFront p s f.pairs f.at
-    go true k = cc
-    go false k = h p f k
-
--- once a front is kept for one more pair
-pub fronts_more : (s : Store) (fronts after : List (Pair × Front)) (q : Pair) (g : Front) → AreFronts s fronts → IsMatchedFront q s g.pairs g.at → ((p : Pair) → lookup (equal_pair p) after ≡ cond (equal_pair q p) (Some g) (lookup (equal_pair p) fronts)) → AreFronts s after
-fronts_more s fronts after q g h kept is p f e = go (equal_pair q p) refl (sym (is p) ∙ e)
-  where
-    go : (b : Bool) → equal_pair q p ≡ b → cond b (Some g) (lookup (equal_pair p) fronts) ≡ Some f → IsMatchedFront p s f.pairs f.at
-    go true here k =
-        let same : q ≡ p = (same_pair_decides q p).0 here in
-        let front : g ≡ f = cc in
-        subst (λ (r : Pair). IsMatchedFront r s f.pairs f.at) same (subst (λ (x : Front). IsMatchedFront q s x.pairs x.at) front kept)
-    go false here k = h p f k
 
 -- one more equation says more
 pub fronts_grow : (es fs : List Equation) (fronts : List (Pair × Front)) (e : Equation) → fs ≡ es ++ e ∷ [] → AreFronts (reverse es) fronts → AreFronts (reverse fs) fronts

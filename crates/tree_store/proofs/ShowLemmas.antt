@@ -156,9 +156,6 @@ shows_more s fronts after y g h kept is x f e = go (equal_var y x) refl (sym (is
         subst (λ (z : VarName). IsShownFront 1000 z s f) same (subst (λ (k : ShownFront). IsShownFront 1000 y s k) front kept)
     go false here k = h x f k
 
-pub shows_stay : (s : Store) (fronts after : List (VarName × ShownFront)) → AreShownFronts s fronts → ((x : VarName) → lookup (equal_var x) after ≡ lookup (equal_var x) fronts) → AreShownFronts s after
-shows_stay s fronts after h is x f e = h x f (sym (is x) ∙ e)
-
 -- one more equation says more
 pub shows_grow : (es fs : List Equation) (fronts : List (VarName × ShownFront)) (e : Equation) → fs ≡ es ++ e ∷ [] → AreShownFronts (reverse es) fronts → AreShownFronts (reverse fs) fronts
 shows_grow es fs fronts e is h =

@@ -115,13 +115,6 @@ no_last es q x ks key none e = go ks (sym (keys_found q es x ∙ ap (keys_by q) 
 pub added_there : (old new : VarName → List ℕ) (x : VarName) (key : ℕ) → ((y : VarName) → new y ≡ with_key old x key y) → Contains (new x) key
 added_there old new x key h = subst (λ (l : List ℕ). Contains l key) (sym (h x ∙ ap (λ (b : Bool). cond b (old x ++ key ∷ []) (old x)) ((same_name_decides x x).1 refl))) (Contains-push (old x) key)
 
-pub added_again : (old new : VarName → List ℕ) (x : VarName) (key : ℕ) → ((y : VarName) → new y ≡ with_key old x key y) → (y : VarName) → IsQueuedAgain (old y) key (new y)
-added_again old new x key h y = subst (λ (l : List ℕ). IsQueuedAgain (old y) key l) (sym (h y)) (go (equal_var x y))
-  where
-    go : (b : Bool) → IsQueuedAgain (old y) key (cond b (old y ++ key ∷ []) (old y))
-    go true = again_pushed (old y) (old y) key (same_itself (old y))
-    go false = again_same (old y) key
-
 -- a queue that is changed where it stands
 pub queue_changed : (q : Queues) (n key : ℕ) (old new : Vec ℕ) → IsSome (get q n) → get q n ≡ Some old → IsQueuedAgain old.items key new.items → IsQueuedAgain (queue_of (get q n)) key (queue_of (get (with_value q n new) n))
 queue_changed q n key old new some e h =

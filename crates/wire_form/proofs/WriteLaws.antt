@@ -4,7 +4,7 @@ use Rattle.std.specs.Prelude.{OnOk}
 use Rattle.std.specs.Result.{is_ok}
 use Rattle.std.specs.Int.{w8, to_be_bytes}
 use Rattle.std.specs.List.{flat_map}
-use Rattle.std.proofs.lemmas.List.{append-nil, take_more, take_all, flat_map_more}
+use Rattle.std.proofs.lemmas.List.{take_all}
 use Rattle.tree_node.specs.declared.names.VarName.{VarName}
 use Rattle.tree_node.specs.declared.names.CellName.{CellName}
 use Rattle.tree_node.specs.declared.names.ThreadName.{ThreadName}
@@ -23,27 +23,10 @@ each_get P [] i d lt h = absurd (omega (arith, lt))
 each_get P (x ∷ xs) zero d lt h = h.0
 each_get P (x ∷ xs) (suc i) d lt h = each_get P xs i d (omega (arith, lt)) h.1
 
-each_push : {X : Type 0} (P : X → Type 0) (xs : List X) (x : X) → Each P xs → P x → Each P (xs ++ x ∷ [])
-each_push P [] x h p = (p, tt)
-each_push P (y ∷ ys) x h p = (h.0, each_push P ys x h.1 p)
-
 -- the first items are written behind what stood there
 pub record IsWriting {X : Type 0} (F : Field WireFault X) (start : List ℕ) (xs : List X) (i : ℕ) (out : List ℕ) : Type 0 where
   pub each : Each (λ x. F.Has x) (take i xs)
   pub written : out ≡ start ++ flat_map F.spelling (take i xs)
-
-pub writing_none : {X : Type 0} (F : Field WireFault X) (start : List ℕ) (xs : List X) → IsWriting F start xs 0 start
-writing_none F start xs = record { each = tt; written = sym (append-nil start) }
-
-pub writing_more : {X : Type 0} (F : Field WireFault X) (start : List ℕ) (xs : List X) (i : ℕ) (out new : List ℕ) (x : X) → i < length xs → x ≡ get_or xs i x
-    → IsWriting F start xs i out → F.Has x × (new ≡ out ++ F.spelling x) → IsWriting F start xs (i + 1) new
-writing_more F start xs i out new x lt at w one =
-    let more : take (i + 1) xs ≡ take i xs ++ x ∷ [] = take_more xs i x lt ∙ ap (λ (y : _). take i xs ++ y ∷ []) (sym at) in
-    record {
-      each = subst (λ (ys : List _). Each (λ x. F.Has x) ys) (sym more) (each_push (λ x. F.Has x) (take i xs) x w.each one.0);
-      written = one.1 ∙ ap (λ (z : List ℕ). z ++ F.spelling x) w.written ∙ flat_map_more F.spelling start (take i xs) x
-          ∙ ap (λ (ys : List _). start ++ flat_map F.spelling ys) (sym more);
-    }
 
 pub writing_all : {X : Type 0} (F : Field WireFault X) (start : List ℕ) (xs : List X) (i : ℕ) (out : List ℕ) → length xs ≤ i → IsWriting F start xs i out
     → Each (λ x. F.Has x) xs × (out ≡ start ++ flat_map F.spelling xs)

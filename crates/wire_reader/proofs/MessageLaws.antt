@@ -137,10 +137,6 @@ message_in form l = do
   first ← byte_at l
   body_at form l.0 (first.0 - lead form) first.1
 
--- the number of a kind, from the byte
-number_of_kind : (form : Form) (k : ℕ) → (lead form + k) - lead form ≡ k
-number_of_kind form k = omega arith
-
 is_kind : (form : Form) (first k : ℕ) → 0 < k → eqb (first - lead form) k ≡ true → first ≡ lead form + k
 is_kind form first k some e = let h = eqb-true (first - lead form) k e in omega (arith, h, some)
 

@@ -180,23 +180,6 @@ kept_exchange hs gs records more mail now cells c new v early k r wider from old
 
 -- ---- the home hears of the cell
 
-pub kept_hearing : (hs gs : Homes) (records more : ℕ → Records) (mail now : Mail) (cells : Cells) (n to : ℕ) (c : CellName) (v : VarName) (early : List EarlyRequest) → HomesMatch hs records mail cells → Rehomed hs gs c (record { content = Some v; early = early }) →
-    ((i : ℕ) (y : VarName) → IsHere (records i) y → IsHere (more i) y) → IsTold mail n to c v →
-    ((j a : ℕ) (d : CellName) (u : VarName) → IsTold now j a d u → IsTold mail j a d u × (j ≢ n)) → ((j a : ℕ) (d : CellName) (u : VarName) → IsTold mail j a d u → c ≢ d → IsTold now j a d u) →
-    IsHere (more c.at) v → AreDistinct early → HomesMatch gs more now cells
-kept_hearing hs gs records more mail now cells n to c v early k r wider at from old known distinct =
-    kept_at hs gs records more mail now cells cells c (record { content = Some v; early = early }) k r wider (λ d other. refl) (λ j b d u other q. (from j b d u q).0) (λ j b d u other q. old j b d u q other)
-    (λ u real found. inl (sym made.3 ∙ found))
-    (λ u found. let same : v ≡ u = some_same found in (made.1, made.3 ∙ ap Some same, subst (λ (y : VarName). IsHere (more c.at) y) same known))
-    (λ j b u q. let g = from j b c u q in absurd (g.1 (k.once j n b to c u v g.0 at)))
-    (λ j l b d u w q g. k.once j l b d c u w (from j b c u q).0 (from l d c w g).0) distinct
-  where
-    made : (to ≡ c.at) × (c.at ≢ 0) × (content_at hs c ≡ None) × (value_of equal_cell cells c ≡ Some v)
-    made = k.makes n to c v at
-
-    some_same : {u : VarName} → Some v ≡ Some u → v ≡ u
-    some_same {u} e = cc
-
 -- ---- a cell is made
 
 module _ (hs : Homes) (records : ℕ → Records) (mail : Mail) (cells : Cells) (c : CellName) (v : VarName) (k : HomesMatch hs records mail cells) (new : value_of equal_cell cells c ≡ None) where

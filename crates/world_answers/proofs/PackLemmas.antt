@@ -55,9 +55,6 @@ shown_by f u i s g real zero own far k = go (k == 0) refl (k == i) refl
 pub shown_is : (f : Sites) (u : Threads) (i : ℕ) (s : Site) (g : ℕ → Threads) → i ≢ 0 → g 0 ≡ u → g i ≡ standing s.threads → ((k : ℕ) → k ≢ 0 → k ≢ i → g k ≡ standing (f k).threads) → ◌≡◌ {A = ℕ → Threads} g (threads (shown (put f i s) u))
 shown_is f u i s g real zero own far = search (rules, shown_by f u i s g real zero own far)
 
-pub shown_zero : (f : Sites) (u : Threads) → (shown f u 0).threads ≡ u
-shown_zero f u = refl
-
 -- the parts, in the form that is wanted
 pub to_shown : (p : List Stmt) (here : ℕ → Name → Type 0) (f : Sites) (i : ℕ) (s : Site) (u : Threads) (g : ℕ → Threads) (mail : Mail) (z : State) → ◌≡◌ {A = ℕ → Threads} g (threads (shown (put f i s) u)) →
     PartsMatch p here (at_put (eqs f) i s.equations) (at_put (records f) i s.records) g (at_put (counters f) i s.counters) mail z → PartsMatch p here (eqs (put f i s)) (records (put f i s)) (threads (shown (put f i s) u)) (counters (put f i s)) mail z

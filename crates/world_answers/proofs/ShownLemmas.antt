@@ -102,9 +102,6 @@ stands_to ts n v e q = standing_found ts n ∙ ap standing_state e ∙ rw q refl
 pub asks_away : (ts : Threads) (n : ThreadName) (v : ThreadState) → value_of equal_thread ts n ≡ Some v → is_asking v.1 ≡ true → value_of equal_thread (standing ts) n ≡ None
 asks_away ts n v e q = standing_found ts n ∙ ap standing_state e ∙ rw q refl
 
-pub none_stands : (ts : Threads) (n : ThreadName) → value_of equal_thread ts n ≡ None → value_of equal_thread (standing ts) n ≡ None
-none_stands ts n e = standing_found ts n ∙ ap standing_state e
-
 -- ---- changes
 
 -- one who stands goes on standing

@@ -34,7 +34,7 @@ use Rattle.site_model.specs.Site.{Site, Threads, ThreadState, thread_state, cell
 use Rattle.site_model.specs.Transition.{Transition, without_output, with_messages, with_pick, with_lines, sequence, and_then}
 use Rattle.site_model.specs.Unit.{IsUnit, IsUnitFor, IsStepOrRequest, IsCellUnit, bind_attempt, birth_row, placement, content_here, after_cell, with_stack, after_effect, step_row, step_pick, with_fresh_names, fresh_names, thread_step, kept_step, with_mode}
 use Rattle.site_model.specs.Variables.{meeting, with_new_equation, with_known_equation, with_known_equation_as, with_known_equations, own_bind, own_binds, opening}
-use Rattle.world_model.specs.Shown.{is_asking, standing, standing_site}
+use Rattle.world_model.specs.Shown.{is_asking, standing_site}
 use Rattle.world_model.proofs.PutLemmas.{nat_decides}
 use Rattle.world_model.proofs.KeyLemmas.{with_here, with_there}
 use Rattle.world_variables.specs.Plain.{IsKept}
@@ -53,10 +53,6 @@ standing_deed d = record d { site = standing_site d.site }
 -- one transition and then another
 view_then : (d e : Transition) (f : Site → Transition) → e ≡ standing_deed d → f (standing_site d.site) ≡ standing_deed (f d.site) → and_then e f ≡ standing_deed (and_then d f)
 view_then d e f p q = ap (λ (x : Transition). and_then x f) p ∙ ap (λ (x : Transition). sequence (standing_deed d) x) q
-
--- the site with these threads
-view_threads : (s : Site) (ts : Threads) → ts ≡ standing s.threads → record s { threads = ts } ≡ standing_site s
-view_threads s ts e = ap (λ (us : Threads). record s { threads = us }) e
 
 -- ---- variables
 
