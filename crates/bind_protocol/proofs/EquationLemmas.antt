@@ -1,5 +1,5 @@
 -- What sites know is what owners know: each row, rows together, and a world of which one site goes on.
-use Rattle.std.proofs.Common.{arith, ◌≡◌, ◌≢◌, ◌∙◌, sym, ap, refl, subst, ℕ, ◌<◌, List, [], ◌∷◌, ◌++◌, map, ◌⊎◌, inl, inr, Bool, true, false, cond, Some, None}
+use Rattle.std.proofs.Common.{◌≡◌, ◌≢◌, ◌∙◌, sym, ap, refl, subst, ℕ, ◌<◌, List, [], ◌∷◌, ◌++◌, map, ◌⊎◌, inl, inr, Bool, true, false, cond, Some, None}
 use Rattle.std.specs.Prelude.{Option, ◌==◌, Contains}
 use Rattle.std.specs.Bool.{Decides}
 use Rattle.std.proofs.lemmas.List.Elements.{Contains-append_left, Contains-append_right, Contains-append_cases}
@@ -20,7 +20,7 @@ use Rattle.bind_protocol.specs.Count.{GoesOn}
 use Rattle.bind_protocol.specs.Learn.{HasLearned, HasRegistered, MeetCase}
 use Rattle.bind_protocol.specs.Equations.{equations_in, IsMessageEquation, IsBound, EquationsAreOwned, KeepsEquations, RowsKeepEquations, EquationsJoin, EquationsGoOn}
 use Rattle.bind_protocol.proofs.RowCountLemmas.{name_cases}
-use Rattle.bind_protocol.proofs.LearnLemmas.{own_is, meet_case, binding_learns, make_learns, ask_learns, late_learns, registers_is}
+use Rattle.bind_protocol.proofs.LearnLemmas.{meet_case, binding_learns, make_learns, ask_learns, late_learns, registers_is}
 use Rattle.bind_protocol.proofs.KnowLemmas.{own_here}
 use Rattle.std.proofs.lemmas.Bool.Decides.{Decides-eqb}
 use Rattle.tree_node.proofs.OrderLemmas.{none as nothing}

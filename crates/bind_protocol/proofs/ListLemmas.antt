@@ -5,8 +5,6 @@ use Rattle.std.specs.List.{count_by}
 use Rattle.std.proofs.lemmas.List.Sums.{sum_by-append}
 use Rattle.tree_node.specs.Each.{Each}
 use Rattle.tree_node.proofs.ClassLemmas.{Contains-head, Contains-tail, Contains-cons_cases}
-use Rattle.site_message.proofs.JournalLemmas.{sent_more}
-use Rattle.tree_node.proofs.EachLemmas.{each_append}
 pub use Rattle.tree_node.proofs.EachLemmas.{each_at_place as each_at}
 
 abbrev pub one : Bool → ℕ

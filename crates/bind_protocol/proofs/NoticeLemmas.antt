@@ -1,5 +1,5 @@
 -- Who waits for a name will be told: each row, rows together, and a world of which one site goes on.
-use Rattle.std.proofs.Common.{rules, arith, ◌≡◌, ◌≢◌, ◌∙◌, sym, ap, refl, subst, ℕ, zero, suc, ◌+◌, ◌≤◌, List, [], ◌∷◌, ◌++◌, map, ◌⊎◌, inl, inr, Bool, true, false, cond, Some, None}
+use Rattle.std.proofs.Common.{arith, ◌≡◌, ◌≢◌, ◌∙◌, sym, ap, refl, subst, ℕ, zero, suc, ◌+◌, ◌≤◌, List, [], ◌∷◌, ◌++◌, map, ◌⊎◌, inl, inr, Bool, true, false, cond, Some, None}
 use Rattle.std.specs.Prelude.{Option, ◌==◌, ◌&&◌, is_some, IsTrue, Contains}
 use Rattle.std.specs.Bool.{Decides}
 use Rattle.tree_node.specs.declared.names.VarName.{VarName}

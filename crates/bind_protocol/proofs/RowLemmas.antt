@@ -1,15 +1,13 @@
 -- Each row of the protocol keeps a world lawful.
-use Rattle.std.proofs.Common.{arith, rules, ◌≡◌, ◌≢◌, ◌∙◌, ℕ, ◌+◌, List, [], ◌∷◌, ◌++◌, refl, sym, ap, subst, ◌⊎◌, inl, inr, Bool, true, false, cond, map}
-use Rattle.std.specs.Prelude.{Option, Some, None, is_some, remove, slice_get, ◌&&◌, ◌==◌}
+use Rattle.std.proofs.Common.{arith, rules, ◌≡◌, ◌≢◌, ◌∙◌, ℕ, ◌+◌, List, [], ◌∷◌, ◌++◌, refl, sym, ap, subst, ◌⊎◌, inl, inr, true, false, cond, map}
+use Rattle.std.specs.Prelude.{Some, None, is_some, remove, slice_get, ◌&&◌, ◌==◌}
 use Rattle.tree_node.specs.declared.names.VarName.{VarName}
 use Rattle.tree_node.specs.declared.names.ThreadName.{ThreadName}
 use Rattle.tree_node.specs.declared.node.Term.{Term}
 use Rattle.tree_node.specs.Each.{Each}
-use Rattle.tree_node.specs.Store.{equal_var}
-use Rattle.tree_node.proofs.ClassLemmas.{same_name_decides, same_name_refl}
+use Rattle.tree_node.proofs.ClassLemmas.{same_name_refl}
 use Rattle.site_message.specs.declared.message.Sent.{Sent}
 use Rattle.proxy_table.specs.Proxies.{Proxy, entry_of}
-use Rattle.variable_owner.specs.declared.owners.Owner.{Owner}
 use Rattle.variable_owner.specs.declared.owners.Owner.TheVariants.{Open, Bound}
 use Rattle.variable_owner.specs.Owners.{owner_of, sites_of, with_owner}
 use Rattle.bind_protocol.specs.Records.{Records, is_own, knowledge, owner_knows}

@@ -1,6 +1,5 @@
 -- The bytes before the place of a first fault begin a value of the field.
-use Rattle.std.proofs.Common.{◌≡◌, ℕ, zero, suc, ◌+◌, ◌-◌, ◌≤◌, Bool, true, false, ltb, List, [], ◌∷◌, ◌++◌, length, replicate, Option, Some, None, refl, sym, ap, subst, ◌∙◌, append_assoc, arith, ◌⊎◌, inl, inr}
-use Rattle.std.specs.Prelude.{codes}
+use Rattle.std.proofs.Common.{◌≡◌, ℕ, zero, suc, ◌+◌, ◌-◌, ◌≤◌, List, [], ◌∷◌, ◌++◌, length, replicate, refl, sym, ap, subst, ◌∙◌, append_assoc, arith, ◌⊎◌, inl, inr}
 use Rattle.std.specs.List.{flat_map}
 use Rattle.std.proofs.lemmas.Fmt.{decimal_digit}
 use Rattle.std.proofs.lemmas.List.{length-append, append-nil, length-replicate}
@@ -10,7 +9,6 @@ use Rattle.byte_fields.specs.declared.fault.FileFault.TheVariants.{Bad}
 use Rattle.byte_fields.specs.Field.{Field, ◌then◌, part_field, EachBehind}
 use Rattle.byte_fields.specs.Text.{IsOtherWord, ◌after◌, IsBadNumeral, number, zero_fault, line, bytes_of, many}
 use Rattle.byte_fields.specs.Laws.{Begins, Opens, IsOpen, AreOpen}
-use Rattle.byte_fields.proofs.StayLaws.{bad_is}
 
 -- where a value is known the front of any begins one
 pub begun : {X : Type 0} (F : Field FileFault X) → IsOpen F → (front : List ℕ) → (front ≡ []) ⊎ Begins F front → Begins F front

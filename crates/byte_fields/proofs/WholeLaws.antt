@@ -5,7 +5,7 @@ use Rattle.std.proofs.lemmas.List.{append-nil, nil_from_length}
 use Rattle.std.proofs.lemmas.Bool.{eqb-true, eqb-false, ne_eqb}
 use Rattle.byte_fields.specs.Field.{Field, EndsAnywhere, IsSpelled, IsFirstFaultOf}
 use Rattle.byte_fields.specs.Reading.{Left, Read, ◌>>=◌, whole_at, IsReadAsWhole}
-use Rattle.byte_fields.specs.Laws.{Takes, IsRead, IsReadBy}
+use Rattle.byte_fields.specs.Laws.{IsRead, IsReadBy}
 use Rattle.byte_fields.proofs.ResultLaws.{done, failed, ok_is, err_is, no_ok, no_err, bind_ok, bind_err, passed, not_passed}
 
 -- what reads a field reads it as its values themselves

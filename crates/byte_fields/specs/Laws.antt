@@ -1,5 +1,5 @@
 -- What reads a field, and where its first faults stand.
-use Rattle.std.specs.Prelude.{◌≡◌, ℕ, ◌+◌, ◌<◌, ◌≤◌, ◌^◌, ◌⊎◌, List, [], ◌++◌, length, Bool, true, Ok, Err}
+use Rattle.std.specs.Prelude.{◌≡◌, ℕ, ◌+◌, ◌<◌, ◌≤◌, ◌^◌, ◌⊎◌, List, [], ◌++◌, length, true, Ok, Err}
 use Rattle.std.specs.Char.{is_ascii_digit}
 use Rattle.byte_fields.specs.declared.fault.FileFault.{FileFault}
 use Rattle.byte_fields.specs.declared.fault.FileFault.TheVariants.{Bad}

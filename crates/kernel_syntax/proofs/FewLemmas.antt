@@ -1,5 +1,5 @@
 -- Two and three positions in ascending order.
-use Rattle.std.proofs.Common.{arith, ◌≡◌, ◌∙◌, ap, ℕ, suc, ◌<◌, [], ◌∷◌, map}
+use Rattle.std.proofs.Common.{arith, ◌≡◌, ◌∙◌, ap, ℕ, ◌<◌, [], ◌∷◌}
 use Rattle.kernel_syntax.specs.Free.{with_position, with_positions}
 
 pub two_up : (a b : ℕ) → a < b → with_positions [] (a ∷ b ∷ []) ≡ a ∷ b ∷ []

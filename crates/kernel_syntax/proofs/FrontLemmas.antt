@@ -10,7 +10,7 @@ use Rattle.tree_node.proofs.EnvLemmas.{each_at}
 use Rattle.kernel_syntax.specs.Scopes.{bare_scope}
 use Rattle.kernel_syntax.specs.Free.{AreRising, with_position, with_positions, without_declared, free_in_each}
 use Rattle.kernel_syntax.specs.Table.{HasFree, IsPrefixOf, free_at}
-use Rattle.kernel_syntax.proofs.OrderLemmas.{Each-at, above_all, position_above}
+use Rattle.kernel_syntax.proofs.OrderLemmas.{above_all, position_above}
 
 -- ---- ascending positions behind others
 

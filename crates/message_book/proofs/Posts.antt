@@ -1,6 +1,6 @@
 -- What a posted turn and a handed out message leave of a book.
 use Rattle.std.proofs.Common.{◌≡◌, ◌≢◌, ℕ, zero, suc, ◌<◌, ◌≤◌, List, [], ◌∷◌, ◌++◌, length, map, set, Bool, true, false, cond, eqb, eqb-true, eq-eqb, Option, Some, None, refl, sym, ap, ◌∙◌, subst, arith, append_assoc, append-nil, inl, inr, ⊎_elim, length-set, nat_le}
-use Rattle.std.specs.Prelude.{Contains, MatchOption, slice_get}
+use Rattle.std.specs.Prelude.{Contains, MatchOption}
 use Rattle.std.specs.List.{filter}
 use mathlib.Core.Logic.{dite}
 use native.Mathlib.Decide.{ℕ_discrete}
@@ -20,7 +20,6 @@ use Rattle.message_book.specs.Inbox.{InboxState}
 use Rattle.message_book.specs.Book.{BookState, IsUntaken, IsUntakenSpelling, IsSiteOf}
 use Rattle.wire_reader.specs.declared.form.Form.TheVariants as forms
 use Rattle.wire_reader.specs.Format.{message, spelling, IsSpelling}
-use Rattle.tree_node.specs.Each.{Each}
 use Rattle.message_book.specs.Inboxes.{HoldsTravelling, AllHoldTravelling, IsConsistent, place, spelling_of, messages_at, number_of, hand_of, inbox_at}
 use Rattle.message_book.proofs.Travels.{messages_ascend, HasNumber, after_low}
 use Rattle.site_message.specs.Laws.{IsAscending}

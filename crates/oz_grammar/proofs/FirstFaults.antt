@@ -1,5 +1,5 @@
 -- Where an automaton faults, the fault is the first one of the symbols; and symbols have one first fault at most.
-use Rattle.std.proofs.Common.{◌≡◌, ℕ, suc, ◌<◌, ◌≤◌, List, [], ◌∷◌, ◌++◌, inl, inr, length, Bool, true, false, cond, Option, Some, None, refl, sym, ap, subst, ◌∙◌, arith, append_assoc, length-append}
+use Rattle.std.proofs.Common.{◌≡◌, ℕ, ◌<◌, ◌≤◌, List, [], ◌∷◌, ◌++◌, inl, inr, length, Bool, true, false, cond, Option, Some, None, refl, sym, ap, subst, ◌∙◌, arith, append_assoc, length-append}
 use Rattle.oz_grammar.specs.Automata.{Automaton, mismatch, read_step, read, state_behind, Grammar, Look, Alone, ByColon, has_colon, SameHead, SameRole, IsCompletedBy, IsViable, IsRefused, IsLexical, IsWrong, AppliesAt, IsFirstFault}
 
 -- ---- reading without a fault

@@ -11,11 +11,11 @@ use Rattle.oz_grammar.specs.declared.symbol.Closer.TheVariants as closer
 use Rattle.oz_grammar.specs.declared.fault.Fault.{Fault}
 use Rattle.oz_grammar.specs.declared.fault.What.{What}
 use Rattle.oz_grammar.specs.declared.fault.What.TheVariants as what
-use Rattle.oz_grammar.specs.Grammar.{Identifier, Plain, Skips, Tells, Calls, Raises, Opening, Locals, ProcValue, ProcNamed, Threads, ThreadsAt, Choice, Ifs, Cases, Statement, Simple, Block, Chooses, Tries, Sequence, One, Then, plain_text, opening_text, choice_text, pattern_text, stmt_text, seq_text, closer_symbol, program_text}
+use Rattle.oz_grammar.specs.Grammar.{Identifier, Skips, Tells, Calls, Raises, Opening, Locals, ProcValue, ProcNamed, Threads, ThreadsAt, Choice, Ifs, Cases, Statement, Simple, Block, Chooses, Tries, Sequence, One, Then, plain_text, opening_text, choice_text, stmt_text, seq_text, closer_symbol, program_text}
 use Rattle.oz_grammar.specs.Scoping.{Scope, declaration_of, opening_scope, choice_scope, StmtDerives, SeqDerives, IsDerivation}
 use Rattle.oz_grammar.specs.Table.{code_at, opening_row, choice_row, program_table}
 use Rattle.oz_grammar.specs.Faults.{use_fault, site_fault, deep_fault, fewer}
-use Rattle.oz_grammar.specs.Check.{check_opening, check_choice, check_pattern, check_stmt, check_seq, check}
+use Rattle.oz_grammar.specs.Check.{check_opening, check_choice, check_stmt, check_seq, check}
 use Rattle.oz_grammar.specs.Points.{expected_after}
 use Rattle.oz_grammar.specs.Reading.{Out, Reader, is_end_of, is_at_statement, more_at, with_numbers, seq_from, seq_at, body_at, procedure_at, set_second, with_second, branches_at, kind_at, stmt_at, program_at}
 use Rattle.oz_grammar.proofs.FieldOrder.{stopped}

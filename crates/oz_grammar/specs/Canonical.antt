@@ -15,7 +15,7 @@ use Rattle.oz_grammar.specs.declared.symbol.Symbol.{Symbol}
 use Rattle.oz_grammar.specs.declared.symbol.Symbol.TheVariants as t
 use Rattle.kernel_syntax.specs.declared.built_in.BuiltIn.{BuiltIn}
 use Rattle.kernel_syntax.specs.declared.built_in.BuiltIn.TheVariants as built
-use Rattle.oz_grammar.specs.Grammar.{Identifier, FeatureToken, AtomFeature, IntFeature, Selection, ByVariable, ByFeature, Field, Placed, WithFeature, Value, ToVar, Calculates, Tests, Selects, Pairs, ToInt, ToAtom, ToRecord, IntPattern, AtomPattern, RecordPattern, PairPattern, Plain, Skips, Tells, Calls, Raises, Opening, Locals, ProcValue, ProcNamed, Threads, ThreadsAt, Choice, Ifs, Cases, plain_text, opening_text, choice_text}
+use Rattle.oz_grammar.specs.Grammar.{Identifier, FeatureToken, AtomFeature, IntFeature, Selection, ByVariable, ByFeature, Field, WithFeature, Value, ToVar, Calculates, Tests, Selects, ToInt, ToAtom, ToRecord, IntPattern, AtomPattern, RecordPattern, Plain, Skips, Tells, Calls, Raises, Opening, Locals, ProcValue, Threads, ThreadsAt, Ifs, Cases, plain_text, opening_text, choice_text}
 use Rattle.oz_grammar.specs.Grammar as tree
 use Rattle.oz_grammar.specs.Table.{code_at}
 

@@ -1,5 +1,5 @@
 -- The canonical symbols of a program can be written.
-use Rattle.std.proofs.Common.{◌≡◌, ◌∙◌, ℕ, zero, suc, ◌+◌, ◌-◌, ◌<◌, ◌≤◌, ◌^◌, List, [], ◌∷◌, length, map, Bool, true, false, Option, Some, None, IsTrue, refl, ap, arith}
+use Rattle.std.proofs.Common.{◌≡◌, ◌∙◌, ℕ, zero, suc, ◌+◌, ◌-◌, ◌<◌, ◌≤◌, ◌^◌, List, [], ◌∷◌, length, map, Bool, true, Option, Some, None, IsTrue, refl, ap, arith}
 use Rattle.std.specs.Prelude.{◌&&◌, ℤ, pos, negsuc, slice_get, unwrap_or}
 use Rattle.std.specs.List.{list_all}
 use Rattle.tree_node.specs.declared.names.CodeId.{CodeId}

@@ -1,5 +1,5 @@
 -- Every program is read of its canonical text.
-use Rattle.std.proofs.Common.{ℕ, List, IsUtf8, sym, subst}
+use Rattle.std.proofs.Common.{List, IsUtf8, sym, subst}
 use Rattle.kernel_syntax.specs.declared.stmt.Stmt.{Stmt}
 use Rattle.kernel_syntax.specs.Program.{IsProgram}
 use Rattle.oz_grammar.specs.declared.symbol.Symbol.{Symbol}

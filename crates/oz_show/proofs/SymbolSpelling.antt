@@ -20,7 +20,7 @@ use Rattle.oz_grammar.specs.Symbols.{symbol_at, word_symbol, sign_symbol}
 use Rattle.oz_grammar.specs.Canonical.{name_at}
 use Rattle.oz_show.specs.CanonicalText.{symbol_text}
 use Rattle.oz_show.proofs.Spaced.{IsSpace, longest_spaced, longest_quoted}
-use Rattle.oz_grammar.proofs.Digits.{decimal_of, short_decimal, word_bytes, FitsInteger, integer}
+use Rattle.oz_grammar.proofs.Digits.{short_decimal, word_bytes, FitsInteger, integer}
 use Rattle.oz_grammar.proofs.Atoms.{is_atom_byte, quoted, bare}
 use Rattle.std.proofs.lemmas.Bool.{and_parts}
 

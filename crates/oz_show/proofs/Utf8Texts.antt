@@ -1,5 +1,5 @@
 -- Canonical texts are UTF-8.
-use Rattle.std.proofs.Common.{◌≡◌, ◌∙◌, ◌⊎◌, inl, inr, ℕ, suc, ◌<◌, ◌≤◌, List, [], ◌∷◌, ◌++◌, eqb, Bool, true, false, cond, Option, Some, None, IsUtf8, refl, sym, ap, subst, arith}
+use Rattle.std.proofs.Common.{◌≡◌, ◌∙◌, ◌⊎◌, inl, inr, ℕ, suc, ◌<◌, ◌≤◌, List, [], ◌∷◌, ◌++◌, eqb, Bool, true, false, cond, Some, None, IsUtf8, refl, sym, ap, subst, arith}
 use Rattle.std.specs.Prelude.{◌&&◌, ◌||◌, nat_lt, decimal, ℤ, pos, negsuc}
 use Rattle.std.specs.Char.{is_ascii_uppercase}
 use Rattle.std.specs.List.{list_all}
@@ -16,7 +16,7 @@ use Rattle.oz_grammar.specs.declared.symbol.Symbol.TheVariants as t
 use Rattle.oz_grammar.proofs.Digits.{word_bytes, FitsInteger}
 use Rattle.oz_grammar.proofs.TextInQuotes.{AreHigh, encode_high, ascii_before}
 use Rattle.oz_show.specs.CanonicalText.{operator_text, test_text, symbol_text, text_behind, symbols_text}
-use Rattle.oz_show.proofs.SymbolSpelling.{IsAtom, IsWritten}
+use Rattle.oz_show.proofs.SymbolSpelling.{IsWritten}
 use Rattle.oz_show.proofs.SpelledTokens.{Written, ends, more, behind_is}
 use Rattle.oz_lexer.proofs.Boundaries.{word_ascii}
 

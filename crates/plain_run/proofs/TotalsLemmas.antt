@@ -12,7 +12,7 @@ use Rattle.kernel_syntax.specs.Program.{IsProgram}
 use Rattle.site_message.specs.declared.turn.Turn.{Turn}
 use Rattle.oz_model.specs.Effect.{Birth}
 use Rattle.oz_model.specs.Run.{IsRun, start}
-use Rattle.oz_model.specs.Step.{end_count, effect_of, threads_born, stack_with_content, living_stack, stack_left}
+use Rattle.oz_model.specs.Step.{end_count, effect_of, threads_born, living_stack, stack_left}
 use Rattle.thread_roster.specs.Threads.{waiting_of}
 use Rattle.site_model.specs.Bundle.{bundle_limit}
 use Rattle.site_model.specs.Site.{Site, runnable_threads, waiting_count}

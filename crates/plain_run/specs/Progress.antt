@@ -5,7 +5,7 @@ use Rattle.site_message.specs.declared.turn.Turn.{Turn}
 use Rattle.site_message.specs.declared.reason.Reason.{Reason}
 use Rattle.site_message.specs.declared.reason.Reason.TheVariants.{Memory}
 use Rattle.site_message.specs.declared.limits.Limits.{Limits}
-use Rattle.site_message.specs.Journal.{sent_of, deliveries, end_of, is_quiet, AreWithin}
+use Rattle.site_message.specs.Journal.{sent_of, deliveries, end_of, AreWithin}
 use Rattle.site_message.specs.EarlierEnd.{HasNoEarlierEnd}
 use Rattle.site_model.specs.Bundle.{bundle_limit}
 use Rattle.site_model.specs.Site.{is_idle}

@@ -1,7 +1,6 @@
 -- A look-up among the entries of the map, and a new entry.
 use Rattle.std.proofs.Common.{◌≡◌, ◌∙◌, sym, ap, refl, List, [], ◌∷◌, ◌++◌, Bool, true, false, cond, Some, None}
-use Rattle.std.specs.Prelude.{◌↔◌, Option, IsTrue, is_some, option_copied}
-use Rattle.std.specs.Borrow.{Bor}
+use Rattle.std.specs.Prelude.{◌↔◌, Option, IsTrue, is_some}
 use Rattle.std.specs.Map.{lookup}
 use Rattle.indexmap.specs.IndexMap.{insert_entry}
 use Rattle.tree_node.specs.declared.names.VarName.{VarName}

@@ -1,6 +1,6 @@
 -- Reading from left to right, as functions on lists: what the reader's parts give, for the proof that they give what the format
 -- says.
-use Rattle.std.specs.Prelude.{ℕ, ◌+◌, List, length, drop, Option, Some, None, Result, Ok, Err, nat_lt, ◌==◌, if◌then◌else◌, codes}
+use Rattle.std.specs.Prelude.{ℕ, ◌+◌, List, length, drop, Option, Some, None, Ok, Err, nat_lt, ◌==◌, if◌then◌else◌, codes}
 use Rattle.tree_node.specs.declared.limits.TheConstants.{MOST_MESSAGES, MOST_SITES, MOST_STEPS, MOST_UNITS}
 use Rattle.tree_node.specs.declared.names.ThreadName.{ThreadName}
 use Rattle.byte_fields.specs.declared.fault.FileFault.{FileFault}

@@ -1,5 +1,5 @@
 -- Statements that were begun last.
-use Rattle.std.proofs.Common.{◌≡◌, ◌≢◌, ◌∙◌, sym, ap, refl, subst, List, [], ◌∷◌, ◌++◌, ◌⊎◌, inl, inr, Bool, true, false, cond, Some, None}
+use Rattle.std.proofs.Common.{◌≡◌, ◌≢◌, ◌∙◌, sym, ap, refl, subst, List, [], ◌∷◌, ◌++◌, ◌⊎◌, Bool, true, false, cond, Some, None}
 use Rattle.std.specs.Prelude.{option_to_list}
 use Rattle.std.proofs.lemmas.List.{append_assoc}
 use Rattle.tree_node.specs.declared.names.ThreadName.{ThreadName}
@@ -11,11 +11,11 @@ use Rattle.tree_node.specs.State.{Stack, State, equal_thread}
 use Rattle.tree_node.proofs.NameLemmas.{same_thread_decides}
 use Rattle.kernel_syntax.specs.declared.stmt.Stmt.{Stmt}
 use Rattle.oz_model.specs.Run as run
-use Rattle.oz_model.specs.Run.{IsRun, start}
+use Rattle.oz_model.specs.Run.{IsRun}
 use Rattle.oz_model.specs.Step.{IsAllowed, next, stack_of}
 use Rattle.oz_model.proofs.RunLemmas.{runs_more}
 use Rattle.run_trace.specs.declared.findings.Begun.{Begun}
-use Rattle.run_trace.specs.Begun.{begun_on, begun_with, begun_from, last_begun}
+use Rattle.run_trace.specs.Begun.{begun_on, begun_with, last_begun}
 use Rattle.run_trace.specs.Raised.{BeginsNone, IsBegunLast}
 
 -- a statement in its environment, of a thread

@@ -3,7 +3,6 @@ use Rattle.std.proofs.Common.{◌≡◌, ◌∙◌, sym, ap, refl, subst, ℕ, z
 use Rattle.std.specs.Prelude.{Option, option_to_list, codes}
 use Rattle.std.proofs.lemmas.List.{append_assoc, append-nil}
 use Rattle.tree_node.specs.declared.names.VarName.{VarName}
-use Rattle.tree_node.specs.declared.names.ThreadName.{ThreadName}
 use Rattle.tree_node.specs.declared.names.NameKind.TheVariants as kind
 use Rattle.tree_node.specs.declared.names.Name.{Name}
 use Rattle.tree_node.specs.declared.names.Name.TheVariants as name
@@ -15,7 +14,7 @@ use Rattle.tree_node.specs.Env.{Env}
 use Rattle.tree_node.specs.Goal.{Case, Dropped, Binds, Opened, Failed, case_of}
 use Rattle.tree_node.specs.Shown.{shown}
 use Rattle.tree_node.specs.State.{Stack, State}
-use Rattle.tree_node.specs.Store.{Store, Equation}
+use Rattle.tree_node.specs.Store.{Equation}
 use Rattle.kernel_syntax.specs.declared.stmt.Stmt.{Stmt}
 use Rattle.kernel_syntax.specs.Free.{stmt_at}
 use Rattle.oz_model.specs.declared.outcome.SystemException.{SystemException}

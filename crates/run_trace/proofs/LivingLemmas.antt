@@ -14,7 +14,7 @@ use Rattle.tree_node.proofs.NameLemmas.{same_thread_decides}
 use Rattle.kernel_syntax.specs.declared.stmt.Stmt.{Stmt}
 use Rattle.kernel_syntax.specs.Free.{free}
 use Rattle.oz_model.specs.Effect as model
-use Rattle.oz_model.specs.Run.{IsRun, Run, start, first_thread}
+use Rattle.oz_model.specs.Run.{IsRun, start, first_thread}
 use Rattle.oz_model.specs.Step.{IsAllowed, effect_of, living_stack, next, stack_left, stack_of, threads_born}
 use Rattle.run_trace.specs.declared.findings.Begun.{Begun}
 use Rattle.run_trace.specs.declared.findings.Birth.{Birth}

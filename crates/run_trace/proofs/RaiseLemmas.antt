@@ -1,5 +1,5 @@
 -- What is left of a stack by a step that raises an exception.
-use Rattle.std.proofs.Common.{◌≡◌, ap, refl, List, [], ◌∷◌, Bool, true, false, Some, None}
+use Rattle.std.proofs.Common.{◌≡◌, ap, refl, List, [], ◌∷◌, false, Some}
 use Rattle.std.specs.Prelude.{Option}
 use Rattle.tree_node.specs.declared.names.VarName.{VarName}
 use Rattle.tree_node.specs.declared.names.Name.{Name}

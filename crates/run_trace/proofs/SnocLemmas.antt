@@ -1,6 +1,6 @@
 -- A run and one more step: what was begun, and which exceptions rose.
-use Rattle.std.proofs.Common.{arith, ◌≡◌, ◌∙◌, sym, ap, refl, subst, ℕ, suc, ◌+◌, length, List, [], ◌∷◌, ◌++◌, Some, None}
-use Rattle.std.specs.Prelude.{Option, option_to_list}
+use Rattle.std.proofs.Common.{arith, ◌≡◌, ◌∙◌, sym, ap, subst, ℕ, suc, ◌+◌, length, List, [], ◌∷◌, ◌++◌}
+use Rattle.std.specs.Prelude.{option_to_list}
 use Rattle.std.proofs.lemmas.List.{append_assoc, append-nil}
 use Rattle.tree_node.specs.declared.pick.Pick.{Pick}
 use Rattle.tree_node.specs.State.{State}

@@ -1,5 +1,5 @@
 -- A pick tells, before its step, the variable that the step raises.
-use Rattle.std.proofs.Common.{◌≡◌, sym, ap, refl, subst, ℕ, suc, pos, List, [], ◌∷◌, Bool, true, false, cond, Some, None}
+use Rattle.std.proofs.Common.{◌≡◌, sym, refl, subst, ℕ, suc, pos, List, [], ◌∷◌, Bool, true, false, cond, Some, None}
 use Rattle.std.specs.Prelude.{Option, length, ◌==◌, codes}
 use Rattle.std.specs.Str.{bytes_eq}
 use Rattle.tree_node.specs.declared.names.VarName.{VarName}

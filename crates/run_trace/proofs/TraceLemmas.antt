@@ -1,5 +1,5 @@
 -- What is kept of a run goes on to be that of its picks.
-use Rattle.std.proofs.Common.{◌≡◌, ◌≢◌, ◌∙◌, sym, ap, refl, subst, ℕ, length, List, [], ◌∷◌, ◌++◌, ◌⊎◌, inl, inr, Bool, true, false, Some, None}
+use Rattle.std.proofs.Common.{◌≡◌, ◌≢◌, ◌∙◌, sym, ap, refl, subst, ℕ, length, List, [], ◌∷◌, ◌++◌, ◌⊎◌, inl, inr, Bool, false, Some, None}
 use Rattle.std.specs.Prelude.{Option, IsSome, option_to_list, unwrap_or}
 use Rattle.tree_node.specs.declared.names.ThreadName.{ThreadName}
 use Rattle.tree_node.specs.declared.names.VarName.{VarName}
@@ -7,7 +7,6 @@ use Rattle.tree_node.specs.declared.pick.Pick.{Pick}
 use Rattle.tree_node.specs.Assoc.{value_of}
 use Rattle.tree_node.specs.State.{Stack, State, equal_thread}
 use Rattle.tree_node.proofs.AssocLemmas.{Each-value_of}
-use Rattle.tree_node.proofs.NameLemmas.{same_thread_decides}
 use Rattle.kernel_syntax.specs.declared.stmt.Stmt.{Stmt}
 use Rattle.oz_model.specs.Run.{IsRun, Run, start}
 use Rattle.oz_model.specs.Step.{IsAllowed, effect_of, next, stack_left, stack_of}

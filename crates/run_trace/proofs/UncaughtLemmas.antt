@@ -1,15 +1,12 @@
 -- Exceptions that nothing caught are those of steps that leave the report.
-use Rattle.std.proofs.Common.{◌≡◌, ◌∙◌, sym, ap, refl, subst, ℕ, suc, length, List, [], ◌∷◌, ◌++◌, Bool, true, false, not, cond, Some, None, add-one}
+use Rattle.std.proofs.Common.{◌≡◌, ◌∙◌, sym, refl, subst, ℕ, suc, length, List, [], ◌∷◌, ◌++◌, Bool, true, false, not, Some, None, add-one}
 use Rattle.std.specs.Prelude.{Option, filter, option_to_list}
 use Rattle.std.proofs.lemmas.List.{append_assoc, length-append}
 use Rattle.std.proofs.lemmas.List.Elements.{filter-append}
-use Rattle.tree_node.specs.declared.names.ThreadName.{ThreadName}
 use Rattle.tree_node.specs.declared.names.VarName.{VarName}
-use Rattle.tree_node.specs.declared.item.Item.TheVariants.{Report}
 use Rattle.tree_node.specs.declared.pick.Pick.{Pick}
 use Rattle.tree_node.specs.Each.{Each}
 use Rattle.tree_node.specs.State.{Stack, State}
-use Rattle.tree_node.specs.Unwind.{stack_after_raise}
 use Rattle.tree_node.proofs.EachLemmas.{each_append}
 use Rattle.kernel_syntax.specs.declared.stmt.Stmt.{Stmt}
 use Rattle.oz_model.specs.Run.{IsRun, Run, start}

@@ -2,24 +2,21 @@
 use Rattle.std.proofs.Common.{◌≡◌, ◌≢◌, ◌∙◌, sym, ap, refl, subst, List, [], ◌∷◌, ◌++◌, map, Bool, true, false, cond, Some, None}
 use Rattle.std.specs.Prelude.{Option, IsSome, unwrap_or}
 use Rattle.tree_node.specs.declared.names.ThreadName.{ThreadName}
-use Rattle.tree_node.specs.declared.names.VarName.{VarName}
 use Rattle.tree_node.specs.declared.pick.Pick.{Pick}
 use Rattle.tree_node.specs.Assoc.{value_of}
 use Rattle.tree_node.specs.Each.{Each}
 use Rattle.tree_node.specs.State.{Stack, State, equal_thread}
-use Rattle.tree_node.specs.Store.{Store}
 use Rattle.tree_node.proofs.EachLemmas.{each_reverse}
 use Rattle.tree_node.proofs.EnvLemmas.{each_more}
 use Rattle.tree_node.proofs.NameLemmas.{same_thread_decides}
 use Rattle.kernel_syntax.specs.declared.stmt.Stmt.{Stmt}
 use Rattle.oz_model.specs.Need.{Need, Waits, WaitsAny, Binds, Takes, IsReady, IsWaiting, stack_need}
-use Rattle.oz_model.specs.Run.{AtRest, Run}
-use Rattle.oz_model.specs.Step.{need_of, stack_of}
+use Rattle.oz_model.specs.Run.{AtRest}
+use Rattle.oz_model.specs.Step.{need_of}
 use Rattle.central_machine.specs.declared.turns.Awaited.{Awaited}
 use Rattle.central_machine.specs.declared.turns.Awaited.TheVariants as awaited
 use Rattle.central_machine.specs.Getters.{IsAwaitedBy, names_of}
 use Rattle.run_trace.specs.declared.findings.Begun.{Begun}
-use Rattle.run_trace.specs.declared.findings.Waiting.{Waiting}
 use Rattle.run_trace.specs.Begun.{begun, begun_with, last_begun}
 use Rattle.run_trace.specs.Waits.{IsWaitingAt}
 use Rattle.run_trace.proofs.BegunLemmas.{last_thread}

@@ -1,8 +1,8 @@
 -- The threads that a run makes, and how many steps each of them goes.
-use Rattle.std.specs.Prelude.{ℕ, List, [], ◌∷◌, ◌++◌, length, filter, Option, Some, None, option_to_list}
+use Rattle.std.specs.Prelude.{List, [], ◌∷◌, ◌++◌, Option, Some, None, option_to_list}
 use Rattle.tree_node.specs.declared.names.ThreadName.{ThreadName}
 use Rattle.tree_node.specs.declared.pick.Pick.{Pick}
-use Rattle.tree_node.specs.State.{State, equal_thread}
+use Rattle.tree_node.specs.State.{State}
 use Rattle.kernel_syntax.specs.declared.stmt.Stmt.{Stmt}
 use Rattle.oz_model.specs.Effect as model
 use Rattle.oz_model.specs.Run.{start}

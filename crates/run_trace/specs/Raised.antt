@@ -7,7 +7,6 @@ use Rattle.tree_node.specs.declared.node.Node.{Node}
 use Rattle.tree_node.specs.declared.node.Term.{Term}
 use Rattle.tree_node.specs.declared.item.Item.TheVariants.{Run, Goals, Report}
 use Rattle.tree_node.specs.declared.pick.Pick.{Pick}
-use Rattle.tree_node.specs.Env.{Env}
 use Rattle.tree_node.specs.Goal.{Case, case_of}
 use Rattle.tree_node.specs.Goal as goal
 use Rattle.tree_node.specs.State.{Stack, State}

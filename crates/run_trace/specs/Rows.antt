@@ -1,5 +1,5 @@
 -- Worked examples of the exceptions of runs.
-use Rattle.std.specs.Prelude.{◌≡◌, List, [], ◌∷◌, Option, Some, None, true, false}
+use Rattle.std.specs.Prelude.{◌≡◌, List, [], ◌∷◌, None, true, false}
 use Rattle.tree_node.specs.declared.pick.Pick.{Pick}
 use Rattle.tree_node.specs.Rows.{v}
 use Rattle.kernel_syntax.specs.declared.stmt.Stmt.{Stmt}

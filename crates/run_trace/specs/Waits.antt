@@ -1,12 +1,10 @@
 -- The threads that wait in a state at rest, where, and for what.
 use Rattle.std.specs.Prelude.{◌≡◌, ◌≢◌, List, map, Some}
-use Rattle.tree_node.specs.declared.names.ThreadName.{ThreadName}
 use Rattle.tree_node.specs.declared.pick.Pick.{Pick}
 use Rattle.tree_node.specs.Each.{Each}
 use Rattle.tree_node.specs.State.{State}
 use Rattle.kernel_syntax.specs.declared.stmt.Stmt.{Stmt}
 use Rattle.oz_model.specs.Step.{need_of}
-use Rattle.central_machine.specs.declared.turns.Awaited.{Awaited}
 use Rattle.central_machine.specs.declared.turns.Awaited.TheVariants as awaited
 use Rattle.central_machine.specs.Getters.{IsAwaitedBy, names_of}
 use Rattle.run_trace.specs.declared.findings.Waiting.{Waiting}

@@ -1,18 +1,17 @@
 -- How many threads wait; where none does, a bind changes nothing.
 use Rattle.std.proofs.Common.{arith, ◌≡◌, ap, refl, subst, ℕ, zero, suc, length, filter, List, [], ◌∷◌, Bool, true, false, cond, Some, None}
-use Rattle.std.specs.Prelude.{Contains, slice_get}
+use Rattle.std.specs.Prelude.{Contains}
 use Rattle.tree_node.specs.declared.names.ThreadName.{ThreadName}
 use Rattle.tree_node.specs.declared.names.VarName.{VarName}
 use Rattle.tree_node.specs.Each.{Each}
 use Rattle.tree_node.specs.State.{equal_thread}
-use Rattle.tree_node.specs.Store.{Store, equal_var}
+use Rattle.tree_node.specs.Store.{Store}
 use Rattle.tree_node.proofs.ClassLemmas.{same_name_decides}
 use Rattle.tree_node.proofs.EachLemmas.{each_append}
 use Rattle.thread_roster.specs.declared.mode.Event.{Event}
 use Rattle.thread_roster.specs.declared.mode.Event.TheVariants as event
 use Rattle.thread_roster.specs.declared.mode.Mode.{Mode}
 use Rattle.thread_roster.specs.declared.mode.Mode.TheVariants as mode
-use Rattle.thread_roster.specs.declared.slot.Occupant.{Occupant}
 use Rattle.thread_roster.specs.Binds.{goes_on}
 use Rattle.thread_roster.specs.Slots.{Slot, IsModeAt, entry, threads_in, wakes}
 use Rattle.thread_roster.specs.Threads.{Entry, determine_all, is_waiting, needs_one, set_value, waiting_of, wake_where}

@@ -1,12 +1,12 @@
 -- No row sends a Get of the manager's own site.
-use Rattle.std.proofs.Common.{arith, ◌≡◌, ◌≢◌, ◌∙◌, sym, ap, refl, ℕ, ◌+◌, List, [], ◌∷◌, Bool, true, false, cond, Some, None}
+use Rattle.std.proofs.Common.{arith, ◌≡◌, ◌≢◌, ◌∙◌, ap, refl, ℕ, ◌+◌, List, [], ◌∷◌, Bool, true, false, cond, Some, None}
 use Rattle.std.specs.Prelude.{Option, ◌==◌}
 use Rattle.tree_node.specs.declared.names.VarName.{VarName}
 use Rattle.token_chain.specs.declared.token.Token.{Token}
 use Rattle.token_chain.specs.declared.token.Token.TheVariants.{Away, Asked, Here}
 use Rattle.token_chain.specs.Holding.{Holding, with_waiter, departure_of}
-use Rattle.token_chain.specs.Mail.{Mail, Get, Forward, Put, mail_count}
-use Rattle.token_chain.specs.Rows.{Reply, reply_without_mail, leave_with, forward_reply, put_reply, get_reply, first_request, exchange_reply}
+use Rattle.token_chain.specs.Mail.{Mail, Get, Forward}
+use Rattle.token_chain.specs.Rows.{Reply, leave_with, forward_reply, get_reply, first_request, exchange_reply}
 use Rattle.token_chain.specs.Moves.{HasReplied, SendsNoGet, GetsAreOfOthers}
 
 leave_sends : (manager : ℕ) (h : Holding) (o : Option (ℕ × VarName)) → SendsNoGet manager (leave_with h o)

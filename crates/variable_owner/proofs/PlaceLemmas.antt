@@ -1,6 +1,6 @@
 -- A row by its columns: what is kept at a place, and what a change at one place leaves of the others.
 use Rattle.std.proofs.Common.{arith, ◌≡◌, ◌∙◌, sym, ap, refl, ℕ, zero, suc, ◌+◌, ◌<◌, ◌≤◌, List, [], ◌∷◌, ◌++◌, length, get_or, set, Bool, true, false, cond}
-use Rattle.std.specs.Prelude.{Option, Some, Result, Ok, Err, OnErr}
+use Rattle.std.specs.Prelude.{Some, Result, Ok, Err, OnErr}
 use Rattle.std.specs.Map.{lookup, set_value}
 use Rattle.tree_node.specs.declared.node.Term.{Term}
 use Rattle.variable_owner.specs.declared.owners.Owner.{Owner}

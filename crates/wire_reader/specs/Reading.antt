@@ -24,7 +24,7 @@ use Rattle.site_message.specs.declared.message.Msg.TheVariants as messages
 use Rattle.wire_reader.specs.declared.form.Form.{Form}
 use Rattle.wire_reader.specs.declared.form.Form.TheVariants as forms
 use Rattle.wire_reader.specs.declared.fault.WireFault.{WireFault}
-use Rattle.wire_reader.specs.declared.fault.WireFault.TheVariants.{Short, Kind, Range, Order, Utf8, Rest, Memory}
+use Rattle.wire_reader.specs.declared.fault.WireFault.TheVariants.{Short, Kind, Range, Order, Utf8, Memory}
 use Rattle.wire_reader.specs.Format.{width, lead}
 
 -- a part of the decoder gives what reading gives, unless memory runs out

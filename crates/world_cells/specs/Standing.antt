@@ -1,5 +1,5 @@
 -- Units and messages that are no requests to the owner of a port or to the home of a stationary cell, and no answers.
-use Rattle.std.specs.Prelude.{◌≡◌, ℕ, List, None, Some}
+use Rattle.std.specs.Prelude.{◌≡◌, List, None, Some}
 use Rattle.tree_node.specs.declared.names.NameKind.{NameKind}
 use Rattle.tree_node.specs.declared.names.ThreadName.{ThreadName}
 use Rattle.tree_node.specs.State.{Stack}

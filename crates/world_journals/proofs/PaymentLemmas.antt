@@ -18,7 +18,7 @@ use Rattle.oz_model.specs.Run.{exchanges, exchanges_from}
 use Rattle.oz_model.proofs.KindLemmas.{cell_same, cells_differ, cell_cases}
 use Rattle.oz_model.proofs.SoundLemmas.{runs_are_sound}
 use Rattle.token_chain.specs.declared.token.Token.{Token}
-use Rattle.token_chain.specs.Mail.{Get, Forward, Put, sent_count, mail_count}
+use Rattle.token_chain.specs.Mail.{Get, Forward, Put, mail_count}
 use Rattle.token_chain.specs.Mail as token
 use Rattle.token_chain.specs.Tally.{total, outstanding}
 use Rattle.token_chain.proofs.TallyLemmas.{one_came}

@@ -1,6 +1,6 @@
 -- The mobile cells among all: which values they have, and what a step does to them.
 use Rattle.std.proofs.Common.{◌≡◌, ◌∙◌, sym, ap, refl, List, [], ◌∷◌, Bool, true, false, cond, Some, None}
-use Rattle.std.specs.Prelude.{Option, ◌≢◌, ◌==◌}
+use Rattle.std.specs.Prelude.{◌≢◌, ◌==◌}
 use Rattle.tree_node.specs.declared.names.VarName.{VarName}
 use Rattle.tree_node.specs.declared.names.CellName.{CellName}
 use Rattle.tree_node.specs.Assoc.{value_of, with_value}

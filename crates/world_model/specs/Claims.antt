@@ -16,7 +16,7 @@ use Rattle.kernel_syntax.specs.declared.stmt.Stmt.{Stmt}
 use Rattle.site_message.specs.declared.message.Msg.{Msg}
 use Rattle.site_message.specs.declared.message.Msg.TheVariants as msg
 use Rattle.oz_model.specs.Need.{Takes, variable_kinds, stack_need}
-use Rattle.oz_model.specs.Effect.{Exchanged, Sent, stack_effect, tell_item, pair_node}
+use Rattle.oz_model.specs.Effect.{Exchanged, Sent, stack_effect}
 use Rattle.thread_roster.specs.declared.mode.Awaited.{Awaited}
 use Rattle.thread_roster.specs.declared.mode.Awaited.TheVariants.{Cell, Port}
 use Rattle.thread_roster.specs.declared.mode.Mode.TheVariants.{Runs, WaitsFor}

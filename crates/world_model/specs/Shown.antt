@@ -1,6 +1,6 @@
 -- The threads of the sites as the machine has them: each stands at its site, but those that wait for an answer stand at number 0, which is
 -- no site, with the stacks that the machine has of them.
-use Rattle.std.specs.Prelude.{ℕ, List, [], ◌∷◌, Bool, true, false, not, ◌==◌, if◌then◌else◌}
+use Rattle.std.specs.Prelude.{[], ◌∷◌, Bool, true, false, not, ◌==◌, if◌then◌else◌}
 use Rattle.tree_node.specs.Assoc.{without_key}
 use Rattle.tree_node.specs.State.{equal_thread}
 use Rattle.thread_roster.specs.declared.mode.Awaited.TheVariants.{Cell, Port}
@@ -26,10 +26,6 @@ standing (t ∷ ts) = if is_asking t.1.1 then without_key equal_thread (standing
 -- a site without them
 abbrev pub standing_site : Site → Site
 standing_site s = record s { threads = standing s.threads }
-
--- the threads by number, these at number 0
-abbrev pub shown_threads : (ℕ → Threads) → Threads → ℕ → Threads
-shown_threads threads transit i = if i == 0 then transit else standing (threads i)
 
 -- the sites with these threads
 abbrev pub shown : Sites → Threads → Sites

@@ -36,7 +36,7 @@ use Rattle.site_model.specs.Variables.{own_binds}
 use Rattle.site_model.specs.Messages as Receive
 use Rattle.site_model.specs.Unit.{IsStepOrRequest, IsCellUnit as IsUnitOfCell, IsRootBind, IsUnitFor, IsUnit, bind_attempt, thread_step, kept_step, fresh_names, next_names, step_row, with_fresh_names, step_pick, birth_row, placement, with_mode}
 use Rattle.world_model.specs.World.{World, after_transition, records, counters}
-use Rattle.world_variables.specs.Plain.{IsKept, IsExchangeOf, IsCellUnit}
+use Rattle.world_variables.specs.Plain.{IsKept, IsCellUnit}
 use Rattle.world_model.specs.Names.{IsHere, IsMade, here_at}
 use Rattle.world_model.specs.Matches.{IsNumbered}
 use Rattle.world_model.proofs.PutLemmas.{field_kept, nat_decides}

@@ -36,7 +36,7 @@ use Rattle.thread_roster.specs.declared.mode.Mode.TheVariants.{Runs}
 use Rattle.site_model.specs.Transition.{Transition, without_output, with_messages, with_pick}
 use Rattle.site_model.specs.Variables.{after_makes, own_binds}
 use Rattle.site_model.specs.Cells.{exchange_stack}
-use Rattle.site_model.specs.Unit.{next_names, counters_after, with_fresh_names, birth_row, after_cell, after_effect, step_row, step_pick, content_here}
+use Rattle.site_model.specs.Unit.{next_names, counters_after, with_fresh_names, birth_row, after_effect, step_row, step_pick, content_here}
 use Rattle.site_model.specs.Fit as Fit
 use Rattle.site_model.specs.Unit as Unit
 use Rattle.site_model.specs.Messages as Receive

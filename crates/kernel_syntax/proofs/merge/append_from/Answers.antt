@@ -1,4 +1,4 @@
-use Rattle.std.proofs.Common.{arith, ◌≡◌, ◌∙◌, ◌+◌, ◌<◌, ap, sym, ℕ, List, [], ◌∷◌, ◌++◌, length, drop, get_or}
+use Rattle.std.proofs.Common.{arith, ◌≡◌, ◌∙◌, ◌+◌, ◌<◌, ap, sym, ℕ, List, [], ◌∷◌, ◌++◌, drop}
 use Rattle.std.proofs.lemmas.List.{append-nil, drop_all}
 use Rattle.kernel_syntax.proofs.MergeLemmas.{next_written}
 use Rattle.kernel_syntax.proofs.merge.append_from.Goals as goal

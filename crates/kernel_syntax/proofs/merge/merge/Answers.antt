@@ -1,4 +1,4 @@
-use Rattle.std.proofs.Common.{arith, ◌≡◌, ◌∙◌, ◌+◌, ◌<◌, ◌≤◌, ap, subst, ℕ, List, [], ◌∷◌, ◌++◌, length, drop, get_or}
+use Rattle.std.proofs.Common.{arith, ◌≡◌, ◌∙◌, ◌+◌, ◌<◌, ◌≤◌, ap, subst, ℕ, List, [], ◌∷◌, ◌++◌, drop, get_or}
 use Rattle.std.specs.Prelude.{OnOk}
 use Rattle.kernel_syntax.specs.Free.{with_positions}
 use Rattle.kernel_syntax.proofs.MergeLemmas.{some_written, other_written, both_written, end_of_some, end_of_others}

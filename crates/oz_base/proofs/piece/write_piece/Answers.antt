@@ -1,5 +1,5 @@
 use Rattle.std.proofs.Common.{arith, rules}
-use Rattle.oz_base.proofs.Pieces.{fronts_joined, none_handed, rest_handed}
+use Rattle.oz_base.proofs.Pieces.{fronts_joined, rest_handed}
 use Rattle.oz_base.proofs.piece.write_piece.Goals as goal
 
 pub loop-at-preserved : goal.loop-at-preserved

@@ -1,4 +1,4 @@
-use Rattle.std.proofs.Common.{take, subst, sym, ap, arith, ◌∙◌, ◌++◌, ◌∷◌, ◌<◌, [], List, length}
+use Rattle.std.proofs.Common.{take, subst, sym, ap, arith, ◌∙◌, ◌++◌, ◌∷◌, ◌<◌, [], length}
 use Rattle.std.specs.Int.Bits.{bit_or}
 use Rattle.std.proofs.lemmas.List.{take_more, take_all}
 use Rattle.site_message.specs.declared.message.Sent.{Sent}

@@ -1,4 +1,4 @@
-use Rattle.std.proofs.Common.{List, [], ℕ, ◌∷◌, refl, ap, ◌∙◌, sym}
+use Rattle.std.proofs.Common.{[], ◌∷◌, refl, ap, ◌∙◌}
 use Rattle.site_message.specs.declared.limits.Limits.{Limits}
 use Rattle.site_message.specs.declared.story.Sight.{Sight}
 use Rattle.message_book.specs.Book.{sight_of}

@@ -1,5 +1,4 @@
 use Rattle.std.proofs.Common.{◌≡◌, refl, subst, not, Bool, true, false}
-use Rattle.tree_node.specs.declared.names.VarName.{VarName}
 use Rattle.thread_roster.specs.Parking.{keys_for}
 use Rattle.thread_roster.specs.Threads.{determine_all}
 use Rattle.thread_roster.proofs.WaitingLemmas.{none_need}

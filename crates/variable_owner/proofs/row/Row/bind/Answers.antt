@@ -1,13 +1,10 @@
-use Rattle.std.proofs.Common.{arith, ◌≡◌, ◌≢◌, ◌↔◌, ◌∙◌, ap, sym, refl, subst, ℕ, ◌<◌, ◌+◌, List, [], ◌∷◌, ◌++◌, length, set, true, false, Some}
+use Rattle.std.proofs.Common.{arith, ◌≡◌, ◌≢◌, ◌↔◌, ◌∙◌, ap, sym, refl, ◌<◌, ◌+◌, List, [], ◌∷◌, ◌++◌, length, set, true, false, Some}
 use Rattle.std.specs.Prelude.{is_some}
-use Rattle.tree_node.specs.declared.node.Term.{Term}
 use Rattle.variable_owner.specs.declared.owners.Owner.{Owner}
 use Rattle.variable_owner.specs.declared.owners.Owner.TheVariants.{Open, Bound}
-use Rattle.variable_owner.specs.declared.owners.Asked.TheVariants.{Late}
-use Rattle.variable_owner.specs.declared.owners.Registered.TheVariants.{Kept, Answer}
-use Rattle.variable_owner.specs.Owners.{TellsRegistered, sites_of, binding_of, with_registered, after_bind}
+use Rattle.variable_owner.specs.Owners.{binding_of, after_bind}
 use Rattle.variable_owner.specs.Row.{owner_in, sites_at}
-use Rattle.variable_owner.proofs.PlaceLemmas.{many, is_bound, held_bound, open_here, more_here, put_here, joined_here, all_err, still_below, bound_joined, bound_asked, value_back}
+use Rattle.variable_owner.proofs.PlaceLemmas.{many, is_bound, open_here, put_here, bound_asked}
 use Rattle.variable_owner.proofs.row.Row.bind.Goals as goal
 
 pub index-requires : goal.index-requires

@@ -1,11 +1,10 @@
-use Rattle.std.proofs.Common.{◌≡◌, ◌-◌, ◌∙◌, ap, sym, refl, ℕ, ◌<◌, List, [], ◌∷◌, ◌++◌, length, Bool, true, false, Some, None}
+use Rattle.std.proofs.Common.{◌≡◌, ◌-◌, ◌∙◌, ap, sym, ℕ, ◌<◌, List, [], ◌∷◌, ◌++◌, length, true, None}
 use Rattle.std.specs.Prelude.{◌+◌}
 use Rattle.std.proofs.lemmas.Result.{on_ok_weaker}
-use Rattle.variable_owner.specs.declared.owners.Owner.{Owner}
 use Rattle.variable_owner.specs.declared.owners.Owner.TheVariants.{Open}
-use Rattle.variable_owner.specs.Owners.{Owned, IsMade, owner_of, sites_of, binding_of, with_owner}
-use Rattle.variable_owner.specs.Row.{in_row, is_in_row, owner_in}
-use Rattle.variable_owner.proofs.RowLemmas.{row_below, row_held, beside_none, past_owner, none_filed, next_added, first_none, past_written}
+use Rattle.variable_owner.specs.Owners.{Owned, owner_of, with_owner}
+use Rattle.variable_owner.specs.Row.{in_row}
+use Rattle.variable_owner.proofs.RowLemmas.{none_filed, next_added, first_none, past_written}
 use Rattle.variable_owner.proofs.table.Table.make.Goals as goal
 
 pub returns-then-is_next-clause-ok : goal.returns-then-is_next-clause-ok

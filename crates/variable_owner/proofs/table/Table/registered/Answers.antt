@@ -1,10 +1,7 @@
-use Rattle.std.proofs.Common.{◌≡◌, ◌-◌, ◌∙◌, ap, sym, refl, ℕ, ◌<◌, List, [], ◌∷◌, ◌++◌, length, Bool, true, false, Some, None}
-use Rattle.std.specs.Prelude.{Option, is_some}
-use Rattle.variable_owner.specs.declared.owners.Owner.{Owner}
-use Rattle.variable_owner.specs.declared.owners.Owner.TheVariants.{Open}
-use Rattle.variable_owner.specs.Owners.{Owned, IsMade, owner_of, sites_of, binding_of, with_owner}
-use Rattle.variable_owner.specs.Row.{in_row, is_in_row, owner_in}
-use Rattle.variable_owner.proofs.RowLemmas.{row_below, row_held, beside_none, past_owner, none_filed, next_added, first_none, past_written}
+use Rattle.std.proofs.Common.{◌≡◌, ◌-◌, ◌∙◌, ap, sym, ℕ, ◌<◌, List, [], ◌∷◌, ◌++◌, length, true, false, Some}
+use Rattle.variable_owner.specs.Owners.{Owned, owner_of, sites_of}
+use Rattle.variable_owner.specs.Row.{is_in_row, owner_in}
+use Rattle.variable_owner.proofs.RowLemmas.{row_below, row_held, beside_none, past_owner}
 use Rattle.variable_owner.proofs.table.Table.registered.Goals as goal
 
 pub registered-requires : goal.registered-requires
