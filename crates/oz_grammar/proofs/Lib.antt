@@ -6,7 +6,6 @@ pub mod Parts
 pub mod Derivations
 pub mod Shorter
 pub mod PartReads
-pub mod Relative
 pub mod FieldOrder
 pub mod TableLimits
 pub mod TableScopes
@@ -20,13 +19,11 @@ pub mod Digits
 pub mod Atoms
 pub mod TextInQuotes
 pub mod TextSymbols
-pub mod StmtReads
 pub mod Ends
 pub mod FaultRows
 pub mod FirstFaults
 pub mod FaultPlaces
 pub mod PartsChecked
-pub mod StatementsChecked
 pub mod ReadLaws
 pub mod TextLaws
 pub mod CanonicalParts

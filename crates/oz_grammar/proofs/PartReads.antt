@@ -1,26 +1,24 @@
 -- The reading functions read as the points do: parts of statements.
-use Rattle.std.proofs.Common.{◌≡◌, ℕ, zero, suc, ◌+◌, List, [], ◌∷◌, ◌++◌, length, drop, Bool, true, false, cond, Option, Some, None, Result, Ok, Err, ℤ, refl, sym, ap, ◌∙◌, arith, length-append}
+use Rattle.std.proofs.Common.{◌≡◌, ℕ, zero, suc, ◌+◌, List, [], ◌∷◌, ◌++◌, length, drop, Bool, true, false, cond, Option, Some, None, Result, Ok, Err, ℤ, refl, sym, ap, ◌∙◌}
 use Rattle.std.proofs.lemmas.List.{append-nil}
 use Rattle.oz_grammar.specs.declared.symbol.Symbol.{Symbol}
 use Rattle.oz_grammar.specs.declared.symbol.Symbol.TheVariants as t
 use Rattle.oz_grammar.specs.declared.symbol.Sign.{Sign}
 use Rattle.oz_grammar.specs.declared.symbol.Sign.TheVariants as sign
-use Rattle.oz_grammar.specs.declared.symbol.Closer.{Closer}
 use Rattle.oz_grammar.specs.declared.symbol.Closer.TheVariants as closer
 use Rattle.oz_grammar.specs.declared.symbol.Purpose.{Purpose}
 use Rattle.oz_grammar.specs.declared.symbol.Purpose.TheVariants as purpose
-use Rattle.oz_grammar.specs.declared.fault.What.TheVariants as what
 use Rattle.oz_grammar.specs.declared.fault.Fault.{Fault}
 use Rattle.oz_grammar.specs.declared.fault.FaultKind.{FaultKind}
 use Rattle.oz_grammar.specs.declared.fault.FaultKind.TheVariants.{Expected}
 use Rattle.oz_grammar.specs.Grammar.{Identifier, FeatureToken, AtomFeature, IntFeature}
-use Rattle.oz_grammar.specs.Scoping.{Scope, Fields, declaration_of, with_field, feature_of, place_feature}
-use Rattle.oz_grammar.specs.Faults.{use_fault, number_fault, count_fault, formal_fault, argument_fault, placed_fault, feature_token_fault, name_fault, fewer}
+use Rattle.oz_grammar.specs.Scoping.{Scope, Fields, with_field, feature_of, place_feature}
+use Rattle.oz_grammar.specs.Faults.{use_fault, number_fault, count_fault, formal_fault, placed_fault, feature_token_fault, name_fault, fewer}
 use Rattle.oz_grammar.specs.Check.{first_fault}
-use Rattle.oz_grammar.specs.Points.{Point, First, Later, At, Here, Used, LocalName, LocalMore, ValueOf, BehindVariable, BehindAtom, SelectionOf, FieldOf, FieldName, Arguments, Wanted, PatternOf, BehindPattern, PatternTail, Formals, SiteHere, expected_sign, is_sign, behind_fields, run, points_automaton}
+use Rattle.oz_grammar.specs.Points.{Point, First, At, Here, LocalName, LocalMore, SelectionOf, FieldOf, FieldName, PatternOf, BehindPattern, PatternTail, Formals, SiteHere, expected_sign, is_sign, behind_fields, run, points_automaton}
 use Rattle.oz_grammar.specs.Automata.{read_step, then_points}
 use Rattle.oz_grammar.specs.Table.{value_of}
-use Rattle.oz_grammar.specs.Reading.{◌>>=◌, fault_expected, fault_or, sign_at, used_variable_at, selection_at, behind_at, FieldOut, field_name_at, named_field_at, field_at, is_close_round, fields_at, record_at, value_at, locals_at, first_local_at, formals_at, arguments_at, close_at, built_in_arguments_at, PatternOut, pair_pattern_at, record_pattern_at, pattern_at, site_at}
+use Rattle.oz_grammar.specs.Reading.{◌>>=◌, fault_expected, fault_or, sign_at, selection_at, FieldOut, field_name_at, named_field_at, field_at, is_close_round, fields_at, locals_at, first_local_at, formals_at, PatternOut, pair_pattern_at, record_pattern_at, pattern_at, site_at}
 
 -- the fault of what is read, else what is found behind it
 abbrev pub read_on : {X : Type 0} → Result X Fault → (X → Option Fault) → Option Fault
@@ -36,19 +34,9 @@ pub chain : {X Y : Type 0} (r : Result X Fault) (f : X → Result Y Fault) (m : 
 chain (Ok x) f m k h = h x
 chain (Err e) f m k h = refl
 
--- the same where something is wrong first
-pub chain_unless : {X Y : Type 0} (wrong : Option FaultKind) (symbols : List Symbol) (r : Result X Fault) (f : X → Result Y Fault) (k : Y → Option Fault) (m : Option Fault) → m ≡ read_on (r >>= f) k → first_fault wrong symbols m ≡ read_on (fault_or wrong symbols r >>= f) k
-chain_unless None symbols r f k m h = h
-chain_unless (Some kind) symbols r f k m h = refl
-
 pub sign_read : (s : Sign) (symbols : List Symbol) (σ : List Point) → run symbols (Here s ∷ σ) ≡ read_on (sign_at s symbols) (λ rest. run rest σ)
 sign_read s [] σ = refl
 sign_read s (x ∷ xs) σ = elim (is_sign s x) as (λ b. read_step points_automaton (Expected (expected_sign s)) None (x ∷ xs) (run xs) (then_points (cond b (Some []) None) σ) ≡ read_on (cond b (Ok xs) (fault_expected (expected_sign s) (x ∷ xs))) (λ rest. run rest σ)) [ true ↦ refl | false ↦ refl ]
-
-pub used_read : (scope : Scope) (symbols : List Symbol) (σ : List Point) → run symbols (Used scope ∷ σ) ≡ read_on (used_variable_at what.Variable scope symbols) (λ v. run v.1 σ)
-used_read scope (t.Variable x ∷ xs) σ = unless_read (use_fault scope x) (t.Variable x ∷ xs) (Ok (declaration_of scope x, xs)) (λ v. run v.1 σ)
-used_read scope [] σ = refl
-used_read scope (x ∷ xs) σ = refl
 
 selection_read : (scope : Scope) (symbols : List Symbol) (σ : List Point) → run symbols (SelectionOf scope ∷ σ) ≡ read_on (selection_at scope symbols) (λ s. run s.1 σ)
 selection_read scope (t.Variable x ∷ xs) σ = unless_read (use_fault scope x) (t.Variable x ∷ xs) (Ok (_, xs)) (λ s. run s.1 σ)
@@ -56,14 +44,6 @@ selection_read scope (t.Atom a ∷ xs) σ = refl
 selection_read scope (t.Integer n ∷ xs) σ = unless_read (number_fault n) (t.Integer n ∷ xs) (Ok (_, xs)) (λ s. run s.1 σ)
 selection_read scope [] σ = refl
 selection_read scope (x ∷ xs) σ = refl
-
-behind_read : (left a : ℕ) (c : Closer) (scope : Scope) (d : ℕ) (symbols : List Symbol) (σ : List Point) → run symbols (BehindVariable c scope d ∷ σ) ≡ read_on (behind_at left a scope symbols) (λ v. run v.1 (At Later c scope d ∷ σ))
-behind_read left a c scope d (t.Operator o ∷ xs) σ = used_read scope xs (At Later c scope d ∷ σ) ∙ chain (used_variable_at what.Variable scope xs) _ (λ z. run z.1 (At Later c scope d ∷ σ)) (λ v. run v.1 (At Later c scope d ∷ σ)) (λ z. refl)
-behind_read left a c scope d (t.Test o ∷ xs) σ = used_read scope xs (At Later c scope d ∷ σ) ∙ chain (used_variable_at what.Variable scope xs) _ (λ z. run z.1 (At Later c scope d ∷ σ)) (λ v. run v.1 (At Later c scope d ∷ σ)) (λ z. refl)
-behind_read left a c scope d (t.Dot ∷ xs) σ = selection_read scope xs (At Later c scope d ∷ σ) ∙ chain (selection_at scope xs) _ (λ z. run z.1 (At Later c scope d ∷ σ)) (λ v. run v.1 (At Later c scope d ∷ σ)) (λ z. refl)
-behind_read left a c scope d (t.Bar ∷ xs) σ = used_read scope xs (At Later c scope d ∷ σ) ∙ chain (used_variable_at what.Variable scope xs) _ (λ z. run z.1 (At Later c scope d ∷ σ)) (λ v. run v.1 (At Later c scope d ∷ σ)) (λ z. refl)
-behind_read left a c scope d [] σ = refl
-behind_read left a c scope d (x ∷ xs) σ = refl
 
 -- ---- fields
 
@@ -124,25 +104,6 @@ fields_read (suc room) p scope d before next symbols σ =
           ∙ chain (field_at p scope (suc room) before next symbols) (λ m. fields_at p scope room m.0 m.1 m.2) (λ o. run o.2 (FieldOf p scope d room o.0 o.1 ∷ σ)) (λ m. run m.1 (behind_fields p scope d m.0 ++ σ)) (λ o. fields_read room p scope d o.0 o.1 o.2 σ)
     ] in chosen (is_close_round symbols) refl
 
-record_read : (left : ℕ) (a : List ℕ) (c : Closer) (scope : Scope) (d : ℕ) (symbols : List Symbol) (σ : List Point) → run symbols (BehindAtom c scope d ∷ σ) ≡ read_on (record_at left a scope symbols) (λ v. run v.1 (At Later c scope d ∷ σ))
-record_read left a c scope d (t.OpenRound ∷ xs) σ =
-    fields_read 64 purpose.Use scope d [] 1 xs (At Later c scope d ∷ σ)
-    ∙ chain (fields_at purpose.Use scope 64 [] 1 xs) _ (λ m. run m.1 (At Later c scope d ∷ σ)) (λ v. run v.1 (At Later c scope d ∷ σ)) (λ m. refl)
-record_read left a c scope d [] σ = refl
-record_read left a c scope d (x ∷ xs) σ = refl
-
-abbrev pub is_proc : List Symbol → Bool
-is_proc (t.Proc ∷ rest) = true
-is_proc rest = false
-
-pub value_read : (left : ℕ) (c : Closer) (scope : Scope) (d : ℕ) (symbols : List Symbol) (σ : List Point) → is_proc symbols ≡ false → run symbols (ValueOf c scope d ∷ σ) ≡ read_on (value_at left scope symbols) (λ v. run v.1 (At Later c scope d ∷ σ))
-value_read left c scope d (t.Proc ∷ xs) σ e = absurd cc
-value_read left c scope d (t.Variable y ∷ xs) σ e = chain_unless (use_fault scope y) (t.Variable y ∷ xs) (Ok (declaration_of scope y, xs)) (λ v. behind_at left v.0 scope v.1) (λ v. run v.1 (At Later c scope d ∷ σ)) (run xs (BehindVariable c scope d ∷ σ)) (behind_read left (declaration_of scope y) c scope d xs σ)
-value_read left c scope d (t.Integer n ∷ xs) σ e = unless_read (number_fault n) (t.Integer n ∷ xs) (Ok (_, xs)) (λ v. run v.1 (At Later c scope d ∷ σ))
-value_read left c scope d (t.Atom a ∷ xs) σ e = record_read left a c scope d xs σ
-value_read left c scope d [] σ e = refl
-value_read left c scope d (x ∷ xs) σ e = refl
-
 -- ---- patterns
 
 pair_read : (scope : Scope) (d : ℕ) (h : Identifier) (symbols : List Symbol) (σ : List Point) → run symbols (PatternTail scope d h ∷ σ) ≡ read_on (pair_pattern_at h symbols) (λ m. run m.2 (Here sign.Then ∷ At First closer.Else (scope ++ m.1) d ∷ σ))
@@ -194,34 +155,6 @@ formals_read (t.Variable x ∷ xs) before scope d σ =
     ∙ unless_read (formal_fault before x) (t.Variable x ∷ xs) (formals_at (before ++ x ∷ []) xs) (λ m. run m.1 (At First closer.End (scope ++ m.0) d ∷ σ))
 formals_read [] before scope d σ = refl
 formals_read (x ∷ xs) before scope d σ = refl
-
-one_more : (before : List ℕ) (p : ℕ) → length (before ++ p ∷ []) ≡ length before + 1
-one_more before p = omega (arith, length-append before (p ∷ []))
-
-pub arguments_read : (symbols : List Symbol) (before : List ℕ) (n : ℕ) (scope : Scope) (σ : List Point) → length before ≡ n → run symbols (Arguments scope n ∷ σ) ≡ read_on (arguments_at scope before symbols) (λ m. run m.1 σ)
-arguments_read (t.CloseCurly ∷ xs) before n scope σ e = refl
-arguments_read (t.Variable x ∷ xs) before n scope σ e =
-    ap (first_fault (argument_fault scope n x) (t.Variable x ∷ xs)) (arguments_read xs (before ++ declaration_of scope x ∷ []) (n + 1) scope σ (one_more before (declaration_of scope x) ∙ ap (λ (k : ℕ). k + 1) e))
-    ∙ ap (λ (k : ℕ). first_fault (argument_fault scope k x) (t.Variable x ∷ xs) (read_on (arguments_at scope (before ++ declaration_of scope x ∷ []) xs) (λ m. run m.1 σ))) (sym e)
-    ∙ unless_read (argument_fault scope (length before) x) (t.Variable x ∷ xs) (arguments_at scope (before ++ declaration_of scope x ∷ []) xs) (λ m. run m.1 σ)
-arguments_read [] before n scope σ e = refl
-arguments_read (x ∷ xs) before n scope σ e = refl
-
-close_read : (symbols : List Symbol) (scope : Scope) (σ : List Point) → run symbols (Wanted scope zero ∷ σ) ≡ read_on (close_at symbols) (λ rest. run rest σ)
-close_read (t.CloseCurly ∷ xs) scope σ = refl
-close_read [] scope σ = refl
-close_read (x ∷ xs) scope σ = refl
-
-wanted_name_read : (symbols : List Symbol) (scope : Scope) (k : ℕ) (σ : List Point) → run symbols (Wanted scope (suc k) ∷ σ) ≡ read_on (used_variable_at what.Variable scope symbols) (λ v. run v.1 (Wanted scope k ∷ σ))
-wanted_name_read (t.Variable x ∷ xs) scope k σ = unless_read (use_fault scope x) (t.Variable x ∷ xs) (Ok (declaration_of scope x, xs)) (λ v. run v.1 (Wanted scope k ∷ σ))
-wanted_name_read [] scope k σ = refl
-wanted_name_read (x ∷ xs) scope k σ = refl
-
-pub wanted_read : (k : ℕ) (scope : Scope) (before : List ℕ) (symbols : List Symbol) (σ : List Point) → run symbols (Wanted scope k ∷ σ) ≡ read_on (built_in_arguments_at scope k before symbols) (λ m. run m.1 σ)
-wanted_read zero scope before symbols σ = close_read symbols scope σ ∙ chain (close_at symbols) _ (λ rest. run rest σ) (λ m. run m.1 σ) (λ rest. refl)
-wanted_read (suc k) scope before symbols σ =
-    wanted_name_read symbols scope k σ
-    ∙ chain (used_variable_at what.Variable scope symbols) (λ v. built_in_arguments_at scope k (before ++ v.0 ∷ []) v.1) (λ v. run v.1 (Wanted scope k ∷ σ)) (λ m. run m.1 σ) (λ v. wanted_read k scope (before ++ v.0 ∷ []) v.1 σ)
 
 pub site_read : (symbols : List Symbol) (σ : List Point) → run symbols (SiteHere ∷ σ) ≡ read_on (site_at symbols) (λ n. run n.1 σ)
 site_read (t.Integer n ∷ xs) σ = unless_read {X = ℤ × List Symbol} _ (t.Integer n ∷ xs) (Ok (value_of n, xs)) (λ v. run v.1 σ)

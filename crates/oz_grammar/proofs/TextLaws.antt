@@ -20,11 +20,11 @@ use Rattle.oz_grammar.specs.declared.fault.TextFault.{TextFault}
 use Rattle.oz_grammar.specs.Faults.{fault_here}
 use Rattle.oz_grammar.specs.Symbols.{word_symbol, sign_symbol, symbol_at, symbol_of, ends_once}
 use Rattle.oz_grammar.specs.Reads.{ReadsSymbols, FaultOfSymbols, kernel, ReadsIn, IsPlace, FaultIn, FaultOf}
-use Rattle.oz_grammar.specs.Laws.{FaultRead, ReadsTexts, FaultsTexts, AreOneOfBoth, TextsArePrograms}
+use Rattle.oz_grammar.specs.Laws.{OneProgram, FaultRead, ReadsTexts, FaultsTexts, AreOneOfBoth, TextsArePrograms}
 use Rattle.oz_grammar.proofs.Ends.{is_inner, ends_over, program_ends}
 use Rattle.oz_grammar.proofs.FaultPlaces.{fault_stands}
 use Rattle.oz_grammar.proofs.TextSymbols.{text_spelled}
-use Rattle.oz_grammar.proofs.ReadLaws.{look, kernel_is_read, is_read, read_is, fault_is, fault_found, reads_faults, symbols_have_one, never_both, one_program, one_fault, reads_are_programs}
+use Rattle.oz_grammar.proofs.ReadLaws.{look, kernel_is_read, is_program, points_pass, fault_is, fault_found, symbols_have_one, never_both, one_fault, reads_are_programs}
 
 -- ---- the symbols of a text end once
 
@@ -157,9 +157,9 @@ same_place text tokens left l c m d P Q =
 -- ---- texts
 
 pub reads_text : TextsDivideOnce → ReadsTexts
-reads_text once text tokens p divided = (
-  λ e. record { tokens = tokens; divided = divided; reads = read_is (map symbol_of tokens) p (tokens_end text tokens divided) e },
-  λ r. let same = once text r.tokens tokens r.divided divided in is_read (map symbol_of tokens) p (subst (λ (ls : List Lexeme). ReadsSymbols (map symbol_of ls) p) same r.reads),
+reads_text once text tokens divided = (
+  λ e. let m = is_program (map symbol_of tokens) (tokens_end text tokens divided) e in (m.0, record { tokens = tokens; divided = divided; reads = m.1 }),
+  λ m. let same = once text m.1.tokens tokens m.1.divided divided in points_pass (map symbol_of tokens) m.0 (subst (λ (ls : List Lexeme). ReadsSymbols (map symbol_of ls) m.0) same m.1.reads),
 )
 
 given_fault : (text : List ℕ) (tokens : List Lexeme) (f : TextFault) → Tokens text tokens → FaultRead text tokens f → FaultOf text f
@@ -168,7 +168,7 @@ given_fault text tokens f divided r = record { tokens = tokens; divided = divide
 read_fault : (text : List ℕ) (tokens : List Lexeme) (f : TextFault) (other : List Lexeme) → other ≡ tokens → Tokens text tokens → (g : Fault) → FaultOfSymbols (map symbol_of other) g → f.kind ≡ g.kind → IsPlace text other g.left f.line f.column → FaultRead text tokens f
 read_fault text tokens f other same divided g F k place = record {
   fault = g;
-  read = (reads_faults (map symbol_of tokens) g (tokens_end text tokens divided)).1 (subst (λ (ls : List Lexeme). FaultOfSymbols (map symbol_of ls) g) same F);
+  read = fault_found (map symbol_of tokens) g (tokens_end text tokens divided) (subst (λ (ls : List Lexeme). FaultOfSymbols (map symbol_of ls) g) same F);
   is_kind = k;
   place = subst (λ (ls : List Lexeme). IsPlace text ls g.left f.line f.column) same place;
 }
@@ -228,8 +228,9 @@ module _ {Program : Type 0} {are : List Symbol → Program → Type 0} {have : L
 pub texts_are_programs : TextsArePrograms
 texts_are_programs text p utf8 r = reads_are_programs (map symbol_of r.tokens) p (text_spelled text r.tokens utf8 r.divided) r.reads
 
-pub symbol_laws : SymbolLaws ReadsSymbols FaultOfSymbols
-symbol_laws = record {
+-- of the kernel, where its symbols are one program
+pub symbol_laws : OneProgram → SymbolLaws ReadsSymbols FaultOfSymbols
+symbol_laws one_program = record {
   some = symbols_have_one;
   never_both = never_both;
   one_program = one_program;

@@ -1,5 +1,5 @@
--- Laws: reading gives the program or the first fault of symbols, and they have one of both.
-use Rattle.std.specs.Prelude.{◌≡◌, ◌↔◌, ◌⊎◌, ℕ, List, map, true, Ok, Err}
+-- Laws: reading by the points tells whether symbols are a program, or their first fault, and they have one of both.
+use Rattle.std.specs.Prelude.{◌≡◌, ◌↔◌, ◌⊎◌, ℕ, List, map, true, Some, None}
 use Rattle.std.specs.Str.{IsUtf8}
 use Rattle.tree_node.specs.Each.{Each}
 use Rattle.kernel_syntax.specs.declared.stmt.Stmt.{Stmt}
@@ -9,19 +9,19 @@ use Rattle.oz_grammar.specs.declared.symbol.Symbol.{Symbol}
 use Rattle.oz_grammar.specs.declared.fault.Fault.{Fault}
 use Rattle.oz_grammar.specs.declared.fault.TextFault.{TextFault}
 use Rattle.oz_grammar.specs.Symbols.{symbol_of, ends_once, IsSpelled}
-use Rattle.oz_grammar.specs.Reading.{program_at}
+use Rattle.oz_grammar.specs.Points.{run, start}
 use Rattle.oz_grammar.specs.Canonical.{canonical_symbols}
 use Rattle.oz_grammar.specs.Reads.{ReadsSymbols, Reads, FaultOfSymbols, IsPlace, FaultOf}
 
 -- ---- of symbols
 
--- what is read is the program that the symbols are
+-- symbols are a program exactly where reading by the points finds no fault
 abbrev pub ReadsPrograms : Type 0
-ReadsPrograms = (symbols : List Symbol) (p : List Stmt) → ends_once symbols ≡ true → (program_at symbols ≡ Ok p) ↔ ReadsSymbols symbols p
+ReadsPrograms = (symbols : List Symbol) → ends_once symbols ≡ true → (run symbols start ≡ None) ↔ ((p : List Stmt) × ReadsSymbols symbols p)
 
--- where reading faults, it is at the first fault of the symbols
+-- .. and the fault that it finds is the first one of the symbols
 abbrev pub ReadsFaults : Type 0
-ReadsFaults = (symbols : List Symbol) (f : Fault) → ends_once symbols ≡ true → (program_at symbols ≡ Err f) ↔ FaultOfSymbols symbols f
+ReadsFaults = (symbols : List Symbol) (f : Fault) → ends_once symbols ≡ true → (run symbols start ≡ Some f) ↔ FaultOfSymbols symbols f
 
 -- symbols are a program, or they have a fault
 abbrev pub SymbolsHaveOne : Type 0
@@ -53,16 +53,16 @@ ProgramsRead = (p : List Stmt) → IsProgram p → ReadsSymbols (canonical_symbo
 
 -- ---- of texts
 
--- reading these tokens faults here
+-- reading these tokens by the points faults here
 pub record FaultRead (text : List ℕ) (tokens : List Lexeme) (f : TextFault) : Type 0 where
   pub fault : Fault
-  pub read : program_at (map symbol_of tokens) ≡ Err fault
+  pub read : run (map symbol_of tokens) start ≡ Some fault
   pub is_kind : f.kind ≡ fault.kind
   pub place : IsPlace text tokens fault.left f.line f.column
 
--- what is read of a text's tokens is the program that the text is
+-- a text is a program exactly where reading its tokens by the points finds no fault
 abbrev pub ReadsTexts : Type 0
-ReadsTexts = (text : List ℕ) (tokens : List Lexeme) (p : List Stmt) → Tokens text tokens → (program_at (map symbol_of tokens) ≡ Ok p) ↔ Reads text p
+ReadsTexts = (text : List ℕ) (tokens : List Lexeme) → Tokens text tokens → (run (map symbol_of tokens) start ≡ None) ↔ ((p : List Stmt) × Reads text p)
 
 -- where reading them faults, it is at the text's first fault
 abbrev pub FaultsTexts : Type 0

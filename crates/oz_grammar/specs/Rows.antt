@@ -1,5 +1,5 @@
--- Worked examples: what some symbols read as, or where they are refused.
-use Rattle.std.specs.Prelude.{◌≡◌, ℕ, List, [], ◌∷◌, Some, None, Ok, Err, codes, pos}
+-- Worked examples: which program some symbols are, or where they are refused.
+use Rattle.std.specs.Prelude.{◌≡◌, ℕ, List, [], ◌∷◌, Some, None, codes, pos}
 use Rattle.tree_node.specs.declared.node.Feature.TheVariants as feature
 use Rattle.kernel_syntax.specs.declared.stmt.Stmt.{Stmt}
 use Rattle.kernel_syntax.specs.declared.stmt.Stmt.TheVariants as stmt
@@ -12,7 +12,8 @@ use Rattle.oz_grammar.specs.declared.fault.FaultKind.{FaultKind}
 use Rattle.oz_grammar.specs.declared.fault.FaultKind.TheVariants.{Lex, Expected, Number, Site, Twice, Unbound}
 use Rattle.oz_grammar.specs.Table.{code_at}
 use Rattle.oz_grammar.specs.Canonical.{canonical_symbols}
-use Rattle.oz_grammar.specs.Reading.{program_at}
+use Rattle.oz_grammar.specs.Points.{run, start}
+use Rattle.oz_grammar.specs.Reads.{ReadsSymbols}
 
 -- the variables X, Y and Browse, the last `end` of a program, an integer, and the atom f
 abbrev X : Symbol
@@ -35,7 +36,7 @@ atom_f = t.Atom (codes "f")
 
 -- these symbols are refused, with so many left
 abbrev Refused : List Symbol → FaultKind → ℕ → Type 0
-Refused symbols kind left = program_at symbols ≡ Err (record { kind = kind; left = left })
+Refused symbols kind left = run symbols start ≡ Some (record { kind = kind; left = left })
 
 -- no symbols
 abbrev pub EmptyText : Type 0
@@ -55,7 +56,7 @@ BuiltInIsFull = Refused (t.Local ∷ X ∷ t.In ∷ t.OpenCurly ∷ Browse ∷ X
 
 -- local Browse X in {Browse X X} end
 abbrev pub HiddenBuiltIn : Type 0
-HiddenBuiltIn = program_at (t.Local ∷ Browse ∷ X ∷ t.In ∷ t.OpenCurly ∷ Browse ∷ X ∷ X ∷ t.CloseCurly ∷ end) ≡ Ok (stmt.Local 0 2 (code_at 1) ∷ stmt.Call 0 (1 ∷ 1 ∷ []) ∷ [])
+HiddenBuiltIn = ReadsSymbols (t.Local ∷ Browse ∷ X ∷ t.In ∷ t.OpenCurly ∷ Browse ∷ X ∷ X ∷ t.CloseCurly ∷ end) (stmt.Local 0 2 (code_at 1) ∷ stmt.Call 0 (1 ∷ 1 ∷ []) ∷ [])
 
 -- local X in X = f(1:X X) end
 abbrev pub TwiceByPosition : Type 0
@@ -84,23 +85,23 @@ BehindThread = Refused (t.Thread ∷ t.CloseCurly ∷ t.EndOfText ∷ []) (Expec
 -- local X in local X in {Browse X} end end: the inner one counts, and the outer one is counted
 abbrev pub HiddenCounts : Type 0
 HiddenCounts =
-    program_at (t.Local ∷ X ∷ t.In ∷ t.Local ∷ X ∷ t.In ∷ t.OpenCurly ∷ Browse ∷ X ∷ t.CloseCurly ∷ t.End ∷ end)
-    ≡ Ok (stmt.Local 0 1 (code_at 1) ∷ stmt.Local 1 1 (code_at 2) ∷ stmt.Browse 1 ∷ [])
+    ReadsSymbols (t.Local ∷ X ∷ t.In ∷ t.Local ∷ X ∷ t.In ∷ t.OpenCurly ∷ Browse ∷ X ∷ t.CloseCurly ∷ t.End ∷ end)
+    (stmt.Local 0 1 (code_at 1) ∷ stmt.Local 1 1 (code_at 2) ∷ stmt.Browse 1 ∷ [])
 
 -- local X in case X of f(b:Y a:X) then {Browse Y} else {Browse X} end end: a pattern's variables in the order of features,
 -- for the first branch
 abbrev pub PatternOrder : Type 0
 PatternOrder =
-    program_at
+    ReadsSymbols
     (t.Local ∷ X ∷ t.In ∷ t.Case ∷ X ∷ t.Of ∷ atom_f ∷ t.OpenRound ∷ t.Atom (codes "b") ∷ t.Colon ∷ Y ∷ t.Atom (codes "a") ∷ t.Colon ∷ X ∷ t.CloseRound
     ∷ t.Then ∷ t.OpenCurly ∷ Browse ∷ Y ∷ t.CloseCurly ∷ t.Else ∷ t.OpenCurly ∷ Browse ∷ X ∷ t.CloseCurly ∷ t.End ∷ end)
-    ≡ Ok (stmt.Local 0 1 (code_at 1) ∷ stmt.Case 0 (pattern.Rec (codes "f") (feature.Atom (codes "a") ∷ feature.Atom (codes "b") ∷ [])) 1 (code_at 2) (code_at 3) ∷ stmt.Browse 2 ∷ stmt.Browse 0 ∷ [])
+    (stmt.Local 0 1 (code_at 1) ∷ stmt.Case 0 (pattern.Rec (codes "f") (feature.Atom (codes "a") ∷ feature.Atom (codes "b") ∷ [])) 1 (code_at 2) (code_at 3) ∷ stmt.Browse 2 ∷ stmt.Browse 0 ∷ [])
 
 -- local X in if X then skip skip else skip end end: a body of several statements has a row
 abbrev pub BodiesInPreorder : Type 0
 BodiesInPreorder =
-    program_at (t.Local ∷ X ∷ t.In ∷ t.If ∷ X ∷ t.Then ∷ t.Skip ∷ t.Skip ∷ t.Else ∷ t.Skip ∷ t.End ∷ end)
-    ≡ Ok (stmt.Local 0 1 (code_at 1) ∷ stmt.If 0 (code_at 2) (code_at 5) ∷ stmt.Seq (code_at 3 ∷ code_at 4 ∷ []) ∷ stmt.Skip ∷ stmt.Skip ∷ stmt.Skip ∷ [])
+    ReadsSymbols (t.Local ∷ X ∷ t.In ∷ t.If ∷ X ∷ t.Then ∷ t.Skip ∷ t.Skip ∷ t.Else ∷ t.Skip ∷ t.End ∷ end)
+    (stmt.Local 0 1 (code_at 1) ∷ stmt.If 0 (code_at 2) (code_at 5) ∷ stmt.Seq (code_at 3 ∷ code_at 4 ∷ []) ∷ stmt.Skip ∷ stmt.Skip ∷ stmt.Skip ∷ [])
 
 -- the table of local P in proc {P X} X = f(b:P P) end end, and of the same in its canonical form:
 -- local V0 in V0 = proc { $ V1 } V1 = f ( 1 : V0 b : V0 ) end end
@@ -111,12 +112,12 @@ example = stmt.Local 0 1 (code_at 1) ∷ stmt.TellProc 0 1 1 (code_at 2) ∷ stm
 abbrev P : Symbol
 P = t.Variable (codes "P")
 
--- the first text reads as the table
+-- the first text is the program with this table
 abbrev pub ExampleReads : Type 0
 ExampleReads =
-    program_at
+    ReadsSymbols
     (t.Local ∷ P ∷ t.In ∷ t.Proc ∷ t.OpenCurly ∷ P ∷ X ∷ t.CloseCurly ∷ X ∷ t.Equals ∷ atom_f ∷ t.OpenRound ∷ t.Atom (codes "b") ∷ t.Colon ∷ P ∷ P ∷ t.CloseRound ∷ t.End ∷ end)
-    ≡ Ok example
+    example
 
 -- the identifiers of the canonical form
 abbrev V0 : Symbol

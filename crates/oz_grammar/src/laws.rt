@@ -1,28 +1,27 @@
 //! Laws of the definitions. Each function does nothing: its clauses are the law.
 
-ghost use Rattle.oz_grammar.specs.Laws.{ReadsPrograms, ReadsFaults, SymbolsHaveOne, NeverBoth, OneProgram, OneFault, ReadsArePrograms, CanonicalReads, ProgramsRead, ReadsTexts, FaultsTexts, AreOneOfBoth, TextsArePrograms};
-ghost use Rattle.oz_grammar.specs.Reads.{Reads, FaultOf};
+ghost use Rattle.oz_grammar.specs.Laws.{ReadsPrograms, ReadsFaults, SymbolsHaveOne, NeverBoth, OneFault, ReadsArePrograms, CanonicalReads, ProgramsRead, ReadsTexts, FaultsTexts, TextsArePrograms};
 ghost use Rattle.oz_grammar.specs.Rows.{EmptyText, OpenQuoteAt, UndeclaredAt, BuiltInIsFull, HiddenBuiltIn, TwiceByPosition, TwiceBeforeColon, TwiceInPattern, SiteBelow, NumberFirst, BehindThread, HiddenCounts, PatternOrder, BodiesInPreorder, ExampleReads, ExampleIsCanonical};
 
 use oz_lexer::texts_divide;
 
-/// Reading gives the program that symbols are, and its fault is their first one.
+/// Reading by the points finds no fault exactly where symbols are a program, and else their first fault.
 pub fn reading_is_exact()
     ensures programs { ReadsPrograms }
     ensures faults { ReadsFaults }
 {}
 
-/// Symbols are one program or have one first fault, never both.
+/// Symbols are a program or have one first fault, never both.
 pub fn one_of_both()
     ensures one { SymbolsHaveOne }
     ensures never_both { NeverBoth }
-    ensures program { OneProgram }
     ensures fault { OneFault }
 {}
 
-/// What spelled symbols are read as is a program.
+/// What spelled symbols are read as is a program, and so is what a text in UTF-8 is read as.
 pub fn reads_are_programs()
-    ensures { ReadsArePrograms }
+    ensures symbols { ReadsArePrograms }
+    ensures texts { TextsArePrograms }
 {}
 
 /// What symbols are read as is read again from its canonical symbols, and so is every program.
@@ -31,18 +30,11 @@ pub fn canonical_symbols_read()
     ensures programs { ProgramsRead }
 {}
 
-/// Reading the tokens of a text gives the program that the text is, and its fault and place are the text's first.
+/// Reading the tokens of a text by the points finds no fault exactly where the text is a program, and else the text's first fault, at
+/// its place.
 pub fn reading_texts_is_exact()
     ensures programs { ReadsTexts }
     ensures faults { FaultsTexts }
-{
-    texts_divide();
-}
-
-/// Each text is one program or has one first fault, never both.
-pub fn texts_have_one_of_both()
-    ensures one_of_both { AreOneOfBoth Reads FaultOf }
-    ensures programs { TextsArePrograms }
 {
     texts_divide();
 }

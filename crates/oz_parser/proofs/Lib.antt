@@ -1,3 +1,1 @@
-pub mod Unfold
-pub mod Shifting
 pub mod Parsing

@@ -1,5 +1,5 @@
 -- Programs and faults of texts.
-use Rattle.std.proofs.Common.{◌≡◌, ℕ, zero, suc, ◌-◌, ◌<◌, ◌≤◌, ◌^◌, List, [], ◌∷◌, ◌++◌, length, take, map, get_or, true, IsUtf8, Result, Ok, Err, refl, sym, subst, ap, ◌∙◌, arith, inl, inr}
+use Rattle.std.proofs.Common.{◌≡◌, ℕ, zero, suc, ◌-◌, ◌<◌, ◌≤◌, List, [], ◌∷◌, ◌++◌, length, take, map, get_or, true, IsUtf8, None, Result, Ok, Err, refl, sym, subst, ap, ◌∙◌, arith, inl, inr}
 use Rattle.std.proofs.lemmas.Bool.{cases_lt}
 use Rattle.std.proofs.lemmas.List.{length-map}
 use Rattle.tree_node.specs.Each.{Each}
@@ -11,48 +11,77 @@ use Rattle.oz_lexer.specs.Tokens.{Lexeme, Tokens}
 use Rattle.oz_lexer.specs.Place.{place_of}
 use Rattle.oz_lexer.proofs.Dividing.{texts_divide, texts_divide_once}
 use Rattle.oz_grammar.specs.declared.symbol.Symbol.{Symbol}
-use Rattle.oz_grammar.specs.declared.symbol.Closer.TheVariants as closer
-use Rattle.oz_grammar.specs.declared.fault.What.TheVariants as what
 use Rattle.oz_grammar.specs.declared.fault.Fault.{Fault}
 use Rattle.oz_grammar.specs.declared.fault.TextFault.{TextFault}
 use Rattle.oz_grammar.specs.Symbols.{symbol_of, ends_once}
-use Rattle.oz_grammar.specs.Reading.{seq_at, stmt_at, program_at, shift_rows}
-use Rattle.oz_grammar.specs.Reads.{FaultIn, Reads, FaultOf}
+use Rattle.oz_grammar.specs.Points.{start, run}
+use Rattle.oz_grammar.specs.Reads.{ReadsSymbols, FaultOfSymbols, FaultIn, Reads}
 use Rattle.oz_grammar.specs.Laws.{AreOneOfBoth}
-use Rattle.oz_grammar.proofs.ReadLaws.{read_is, read_stands}
-use Rattle.oz_grammar.proofs.TextLaws.{SymbolLaws, tokens_end, reads_text, texts_are_programs, are_one_of_both}
-use Rattle.oz_grammar.proofs.TextLaws as kernel
+use Rattle.oz_grammar.proofs.ReadLaws as kernel
+use Rattle.oz_grammar.proofs.TextLaws.{SymbolLaws, tokens_end, texts_are_programs, are_one_of_both}
 use Rattle.oz_phrases.specs.declared.stop.Stop.{Stop}
 use Rattle.oz_phrases.specs.declared.stop.Stop.TheVariants as stops
 use Rattle.oz_phrases.specs.ReadAnswers.{IsFailure}
 use Rattle.oz_symbols.specs.TextSymbols.{start_of, AreSymbols}
 use Rattle.surface_grammar.specs.Reading as sugar
 use Rattle.surface_grammar.specs.Texts as surface
+use Rattle.surface_grammar.specs.Laws as sugar_laws
 use Rattle.surface_grammar.proofs.ReadLaws as surface_laws
+use Rattle.kernel_check.specs.Runs.{IsFault}
+use Rattle.sugar_rows.specs.Put.{expanded_rows, Expand}
+use Rattle.sugar_rows.proofs.KernelTexts.{kernel_stands}
 use Rattle.oz_parser.specs.declared.error.ParseError.{ParseError}
 use Rattle.oz_parser.specs.declared.error.ParseError.TheVariants as errors
-use Rattle.oz_parser.specs.Fits.{RowsFit}
-use Rattle.oz_parser.specs.ParseAnswers.{IsErrorOf, IsParse, IsAnswer, IsFaultAnswer, Stands, IsFaultAt, IsErrorAt}
-use Rattle.oz_parser.proofs.Shifting.{program_fits, same_count}
-
--- the numbers of what is read fit
-pub rows_fit : (symbols : List Symbol) (rows : List Stmt) (rest : List Symbol) → ends_once symbols ≡ true → seq_at (stmt_at 200) closer.EndOfText [] [] what.Statement symbols ≡ Ok (rows, rest) → length rows < 2 ^ 32 → RowsFit 0 rows
-unfolding program_at
-rows_fit symbols rows rest ends e lt =
-    let read : program_at symbols ≡ Ok (shift_rows 0 rows) = rw e refl in
-    let n : length (shift_rows 0 rows) < 2 ^ 32 = subst (λ (k : ℕ). k < 2 ^ 32) (sym (same_count 0 rows)) lt in
-    program_fits rows (read_stands symbols (shift_rows 0 rows) (read_is symbols (shift_rows 0 rows) ends read)) n
+use Rattle.oz_parser.specs.ParseAnswers.{IsErrorOf, IsParse, IsAnswer, IsFaultAnswer, IsFaultIn, Stands, IsFaultAt, IsErrorAt}
 
 pub symbols_end : (text : List ℕ) (symbols : List Symbol) (starts : List ℕ) → AreSymbols text symbols starts → ends_once symbols ≡ true
 symbols_end text symbols starts a = ap ends_once a.symbols_are ∙ tokens_end text a.tokens a.divided
 
 -- ---- programs
 
-pub reads : (text : List ℕ) (symbols : List Symbol) (starts : List ℕ) (rows : List Stmt) → AreSymbols text symbols starts → program_at symbols ≡ Ok rows → Reads text rows
-reads text symbols starts rows a e = (reads_text texts_divide_once text a.tokens rows a.divided).0 (ap program_at (sym a.symbols_are) ∙ e)
+pub reads : (text : List ℕ) (symbols : List Symbol) (starts : List ℕ) (rows : List Stmt) → AreSymbols text symbols starts → ReadsSymbols symbols rows → Reads text rows
+reads text symbols starts rows a r = record { tokens = a.tokens; divided = a.divided; reads = subst (λ (xs : List Symbol). ReadsSymbols xs rows) a.symbols_are r }
 
-pub is_program : (text : List ℕ) → IsUtf8 text → (symbols : List Symbol) (starts : List ℕ) (rows : List Stmt) → AreSymbols text symbols starts → program_at symbols ≡ Ok rows → IsProgram rows
-is_program text utf8 symbols starts rows a e = texts_are_programs text rows utf8 (reads text symbols starts rows a e)
+pub is_program : (text : List ℕ) → IsUtf8 text → (symbols : List Symbol) (starts : List ℕ) (rows : List Stmt) → AreSymbols text symbols starts → ReadsSymbols symbols rows → IsProgram rows
+is_program text utf8 symbols starts rows a r = texts_are_programs text rows utf8 (reads text symbols starts rows a r)
+
+pub kernel_refused : (symbols : List Symbol) (stop : Stop) → IsFault stop symbols start → IsFaultIn FaultOfSymbols symbols stop
+kernel_refused symbols stops.Memory told = tt
+kernel_refused symbols (stops.Fault f) told = kernel.fault_is symbols f told
+
+-- symbols without a fault are a program of the kernel, and one with sugar that stands for it
+record KernelTree (symbols : List Symbol) : Type 0 where
+  rows : List Stmt
+  tree : Statements
+  reads : ReadsSymbols symbols rows
+  read_as_tree : sugar.program_at symbols ≡ Ok tree
+  expands : Expand tree rows
+
+kernel_tree : (symbols : List Symbol) → ends_once symbols ≡ true → run symbols start ≡ None → KernelTree symbols
+kernel_tree symbols ends e =
+    let p = kernel.is_program symbols ends e in
+    let s = kernel_stands symbols p.0 p.1 in
+    record { rows = p.0; tree = s.0; reads = p.1; read_as_tree = (surface_laws.reads_programs symbols s.0 ends).1 s.1; expands = s.2 }
+
+tree_is : (s t : Statements) (r : Result Statements Fault) → r ≡ Ok s → r ≡ Ok t → s ≡ t
+tree_is s t (Ok u) e f = cc
+tree_is s t (Err g) e f = absurd cc
+
+pub kernel_rows : (symbols : List Symbol) (s : Statements) (rows : List Stmt) → ends_once symbols ≡ true → run symbols start ≡ None → sugar.program_at symbols ≡ Ok s → Expand s rows → ReadsSymbols symbols rows
+kernel_rows symbols s rows ends e read expands =
+    let k = kernel_tree symbols ends e in
+    let same : s ≡ k.tree = tree_is s k.tree (sugar.program_at symbols) read k.read_as_tree in
+    let all : rows ≡ k.rows = expands ∙ ap expanded_rows same ∙ sym k.expands in
+    subst (ReadsSymbols symbols) (sym all) k.reads
+
+refused_tree : (f : Fault) (s : Statements) (r : Result Statements Fault) → r ≡ Ok s → r ≡ Err f → ⊥
+refused_tree f s (Ok t) e g = cc
+refused_tree f s (Err h) e g = cc
+
+-- no symbols that are a program of the kernel are refused as a program with sugar
+pub never_refused : (symbols : List Symbol) (stop : Stop) → ends_once symbols ≡ true → run symbols start ≡ None → IsFailure stop (sugar.program_at symbols) → IsFaultIn FaultOfSymbols symbols stop
+never_refused symbols stops.Memory ends e fails = tt
+never_refused symbols (stops.Fault f) ends e fails = let k = kernel_tree symbols ends e in absurd (refused_tree f k.tree (sugar.program_at symbols) k.read_as_tree fails)
 
 -- ---- faults
 
@@ -100,10 +129,10 @@ left_at (x ∷ xs) left some le =
 -- Of a language, by the laws of its symbols.
 module _ {Program : Type 0} {are : List Symbol → Program → Type 0} {have : List Symbol → Fault → Type 0} (law : SymbolLaws are have) where
   -- a refusal stands at one of the symbols
-  pub refusal_stands : {X : Type 0} (text : List ℕ) (symbols : List Symbol) (starts : List ℕ) (read : Result X Fault) (stop : Stop) → AreSymbols text symbols starts → ((f : Fault) → read ≡ Err f → have symbols f) → IsFailure stop read → Stands stop (length starts)
-  refusal_stands text symbols starts read stops.Memory a faults fails = tt
-  refusal_stands text symbols starts read (stops.Fault f) a faults fails =
-      let stands = law.stands symbols f (symbols_end text symbols starts a) (faults f fails) in
+  pub refusal_stands : (text : List ℕ) (symbols : List Symbol) (starts : List ℕ) (stop : Stop) → AreSymbols text symbols starts → IsFaultIn have symbols stop → Stands stop (length starts)
+  refusal_stands text symbols starts stops.Memory a told = tt
+  refusal_stands text symbols starts (stops.Fault f) a told =
+      let stands = law.stands symbols f (symbols_end text symbols starts a) told in
       let n = same_length text symbols starts a in
       (stands.0, omega (arith, stands, n))
 
@@ -132,10 +161,10 @@ module _ {Program : Type 0} {are : List Symbol → Program → Type 0} {have : L
       }
 
   -- its error is the text's fault
-  pub refusal_is : {X : Type 0} (text : List ℕ) (symbols : List Symbol) (starts : List ℕ) (read : Result X Fault) (stop : Stop) (e : ParseError) → AreSymbols text symbols starts → ((f : Fault) → read ≡ Err f → have symbols f) → IsFailure stop read → IsErrorAt text starts stop e → IsErrorOf (FaultIn have) text e
-  refusal_is text symbols starts read stops.Memory e a faults fails at = subst (IsErrorOf (FaultIn have) text) (sym at) tt
-  refusal_is text symbols starts read (stops.Fault f) errors.Memory a faults fails at = absurd at
-  refusal_is text symbols starts read (stops.Fault f) (errors.Text g) a faults fails at = at_token text symbols starts f g a (faults f fails) at
+  pub refusal_is : (text : List ℕ) (symbols : List Symbol) (starts : List ℕ) (stop : Stop) (e : ParseError) → AreSymbols text symbols starts → IsFaultIn have symbols stop → IsErrorAt text starts stop e → IsErrorOf (FaultIn have) text e
+  refusal_is text symbols starts stops.Memory e a told at = subst (IsErrorOf (FaultIn have) text) (sym at) tt
+  refusal_is text symbols starts (stops.Fault f) errors.Memory a told at = absurd at
+  refusal_is text symbols starts (stops.Fault f) (errors.Text g) a told at = at_token text symbols starts f g a told at
 
 -- ---- only these
 
@@ -152,13 +181,15 @@ only_fault law told view text (Ok x) seen h f fault = law.never_both text (view 
 only_fault law told view text (Err errors.Memory) seen h f fault = tt
 only_fault law told view text (Err (errors.Text g)) seen h f fault = law.fault text g f h fault
 
--- ---- both languages
-
-pub kernel_texts : AreOneOfBoth Reads FaultOf
-kernel_texts = are_one_of_both kernel.symbol_laws texts_divide texts_divide_once
+-- ---- programs with sugar
 
 pub surface_texts : AreOneOfBoth surface.Reads surface.FaultOf
 surface_texts = are_one_of_both surface_laws.symbol_laws texts_divide texts_divide_once
+
+-- where reading with sugar is refused, that is the first fault
+pub surface_refused : (symbols : List Symbol) (stop : Stop) → IsFailure stop (sugar.program_at symbols) → IsFaultIn sugar_laws.FaultOfSymbols symbols stop
+surface_refused symbols stops.Memory fails = tt
+surface_refused symbols (stops.Fault f) fails = surface_laws.fault_is symbols f fails
 
 pub surface_reads : (text : List ℕ) (symbols : List Symbol) (starts : List ℕ) (s : Statements) → AreSymbols text symbols starts → sugar.program_at symbols ≡ Ok s → surface.Reads text s
 surface_reads text symbols starts s a e = record {

@@ -1,4 +1,1 @@
-pub mod State
-pub mod Heads
-pub mod Fits
 pub mod ParseAnswers

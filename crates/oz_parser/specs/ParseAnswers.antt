@@ -4,6 +4,7 @@ use Rattle.kernel_syntax.specs.SugarView.{statements_in}
 use Rattle.kernel_syntax.specs.Surfaces.{SurfaceParts}
 use Rattle.oz_lexer.specs.Tokens.{Lexeme, Tokens}
 use Rattle.oz_lexer.specs.Place.{place_of}
+use Rattle.oz_grammar.specs.declared.symbol.Symbol.{Symbol}
 use Rattle.oz_grammar.specs.declared.fault.Fault.{Fault}
 use Rattle.oz_grammar.specs.declared.fault.TextFault.{TextFault}
 use Rattle.oz_phrases.specs.declared.stop.Stop.{Stop}
@@ -40,6 +41,18 @@ abbrev pub IfFault : {X : Type 0} → Result X ParseError → (TextFault → Typ
 IfFault (Ok q) IsSo = Unit {0}
 IfFault (Err errors.Memory) IsSo = Unit {0}
 IfFault (Err (errors.Text f)) IsSo = IsSo f
+
+-- ---- symbols
+
+-- the fault is the first one of the symbols, as their language tells it; want of memory says nothing of it
+abbrev pub IsFaultIn : (List Symbol → Fault → Type 0) → List Symbol → Stop → Type 0
+IsFaultIn have symbols stops.Memory = Unit {0}
+IsFaultIn have symbols (stops.Fault f) = have symbols f
+
+-- what was read is what the symbols are, or their first fault is told
+abbrev pub IsRead : {X : Type 0} → (List Symbol → X → Type 0) → (List Symbol → Fault → Type 0) → List Symbol → Result X Stop → Type 0
+IsRead are have symbols (Ok x) = are symbols x
+IsRead are have symbols (Err stop) = IsFaultIn have symbols stop
 
 -- ---- programs with sugar
 

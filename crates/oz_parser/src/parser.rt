@@ -5,32 +5,32 @@ ghost use Rattle.tree_node.specs.Each.{Each};
 ghost use Rattle.kernel_syntax.specs.declared.stmt.Stmt.{Stmt};
 ghost use Rattle.oz_grammar.specs.declared.fault.TextFault.{TextFault};
 ghost use Rattle.oz_grammar.specs.Symbols.{ends_once};
-ghost use Rattle.oz_grammar.specs.Reading.{program_at};
-ghost use Rattle.oz_grammar.specs.Reads.{Reads, FaultOf};
-ghost use Rattle.oz_phrases.specs.ReadAnswers.{IsReadAs};
+ghost use Rattle.oz_grammar.specs.Reads.{ReadsSymbols, Reads, FaultOfSymbols, FaultOf};
 ghost use Rattle.oz_symbols.specs.TextSymbols.{AreSymbols};
-ghost use Rattle.oz_parser.specs.ParseAnswers.{IsParse, IsAnswer, IsFaultAnswer, IfFault, Stands, IsFaultAt, IsErrorAt};
+ghost use Rattle.oz_parser.specs.ParseAnswers.{IsParse, IsAnswer, IsFaultAnswer, IfFault, IsRead, Stands, IsFaultAt, IsErrorAt};
 
 use crate::error::ParseError;
-use crate::reader::Reader;
-use crate::table::shift_rows;
+use kernel_check::check;
 use kernel_syntax::{Program, Stmt};
-use oz_grammar::{Closer, Fault, Symbol, TextFault, What};
+use oz_grammar::{Fault, Symbol, TextFault};
 use oz_lexer::line_and_column;
 use oz_phrases::Stop;
 use oz_symbols::symbols_of;
 use std::alloc::Global;
+use sugar_rows::rows_of;
+use surface_reader::read_program;
 
-/// The rows of the program that these symbols are.
-#[tactic(auto, unfolding(oz_grammar::specs::Reading::program_at))]
+/// The rows of the program of the kernel that these symbols are: they are checked first, and then read as a program with sugar, which
+/// stands for itself.
+#[tactic(auto, using(crate::proofs::Parsing::kernel_refused, crate::proofs::Parsing::never_refused))]
 fn table(alloc: Global, symbols: &[Symbol]) -> Result<Vec<Stmt>, Stop>
     requires few { length symbols.now < 2 ^ 29 }
     requires ends { ends_once symbols.now ≡ true }
-    ensures { IsReadAs (λ v. v.items) result (program_at symbols.now) }
+    ensures { IsRead (λ xs v. ReadsSymbols xs v.items) FaultOfSymbols symbols.now result }
 {
-    let mut reader = Reader::new(alloc, symbols);
-    reader.sequence(200, Closer::EndOfText, What::Statement)?;
-    Ok(shift_rows(alloc, reader.into_rows())?)
+    check(alloc, symbols)?;
+    let tree = read_program(alloc, symbols)?;
+    Ok(rows_of(alloc, tree.as_slice(), symbols.len())?)
 }
 
 /// A fault with its line and column, where so many symbols are left.

@@ -1,4 +1,4 @@
 pub mod ScopeIndex
 pub mod ReadAnswers
 pub mod Fields
-pub mod Values
+pub mod Patterns

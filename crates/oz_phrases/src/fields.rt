@@ -1,17 +1,16 @@
 //! The fields of records and patterns.
 
-ghost use Rattle.std.specs.Prelude.{◌≡◌, ◌+◌, ◌<◌, ◌≤◌, ◌^◌, [], map, drop, length, vec_len, IfOk, OnOk, insert};
+ghost use Rattle.std.specs.Prelude.{◌≡◌, ◌+◌, ◌<◌, ◌≤◌, ◌^◌, [], drop, length, vec_len, IfOk, OnOk, insert};
 ghost use Rattle.tree_node.specs.declared.limits.TheConstants.{MOST_ITEMS};
-ghost use Rattle.oz_grammar.specs.Scoping.{has_feature, has_name, names_in, with_field, feature_of};
-ghost use Rattle.oz_grammar.specs.Faults.{feature_fault, name_fault, placed_fault, feature_token_fault};
-ghost use Rattle.oz_grammar.specs.Table.{slots_of, features_in};
-ghost use Rattle.oz_grammar.specs.Reading.{fields_at, field_at, named_field_at, field_name_at, is_close_round};
-ghost use Rattle.tree_node.specs.Node.{feature_cmp};
+ghost use Rattle.oz_grammar.specs.Scoping.{has_feature, has_name, names_in, with_field};
+ghost use Rattle.oz_grammar.specs.Faults.{feature_fault, name_fault, placed_fault};
+ghost use Rattle.oz_grammar.specs.Table.{features_in};
+ghost use Rattle.oz_grammar.specs.Reading.{fields_at, field_at, is_close_round};
 ghost use Rattle.oz_phrases.specs.Fields.{insertion_point, field_name_of, field_with_feature_of, numbered_field_of};
 ghost use Rattle.oz_phrases.specs.ReadAnswers.{IsReadAs};
 
-use crate::scope::{Scope, position_or_zero};
-use crate::signs::sign;
+use crate::scope::Scope;
+use crate::signs::{is_close_round, sign};
 use crate::stop::{Read, Stop, fault, mismatch};
 use oz_grammar::{FaultKind, Numeral, Purpose, Sign, Symbol, What};
 use std::alloc::{AllocError, Global};
@@ -254,19 +253,9 @@ fn field<'t>(
     }
 }
 
-/// Whether the closing bracket stands here.
-fn is_close_round(symbols: &[Symbol]) -> bool
-    ensures { result ≡ is_close_round symbols.now }
-{
-    match symbols {
-        [Symbol::CloseRound, ..] => true,
-        _ => false,
-    }
-}
-
 /// The fields up to the closing bracket, in the order of features: at most 64.
 #[tactic(auto, using(crate::proofs::Unfold::fields_round, crate::proofs::Unfold::fields_zero, crate::proofs::Unfold::fields_some))]
-pub fn fields<'t>(
+pub fn fields_in_brackets<'t>(
     alloc: Global,
     purpose: Purpose,
     scope: &Scope,
@@ -296,25 +285,6 @@ pub fn fields<'t>(
         next = following;
         rest = behind;
     }
-}
-
-/// The positions of the names of fields.
-pub fn slots(
-    alloc: Global,
-    scope: &Scope,
-    fields: &[(Feature, Text)],
-) -> Result<Vec<(Feature, u32)>, AllocError>
-    requires { length scope.now < 2 ^ 32 }
-    ensures { IfOk result (λ v. v.items ≡ slots_of scope.now fields.now) }
-{
-    let mut slots = Vec::new(alloc);
-    for field in fields {
-        slots.push((
-            copy_feature(&field.0)?,
-            position_or_zero(scope, field.1.as_slice()),
-        ))?;
-    }
-    Ok(slots)
 }
 
 /// The features of fields.

@@ -4,9 +4,9 @@ ghost use Rattle.std.specs.Prelude.{◌≡◌, ◌+◌, ◌<◌, ◌≤◌, leng
 ghost use Rattle.oz_grammar.specs.Table.{record_pattern};
 ghost use Rattle.oz_grammar.specs.Reading.{pair_pattern_at, record_pattern_at, pattern_at};
 ghost use Rattle.oz_phrases.specs.ReadAnswers.{IsReadAs};
-ghost use Rattle.oz_phrases.specs.Values.{pair_pattern};
+ghost use Rattle.oz_phrases.specs.Patterns.{pair_pattern};
 
-use crate::fields::{features, fields, names};
+use crate::fields::{features, fields_in_brackets, names};
 use crate::scope::Scope;
 use crate::signs::sign;
 use crate::stop::{Stop, fault, mismatch};
@@ -71,7 +71,7 @@ fn atom_pattern<'t>(
 {
     match symbols {
         [Symbol::OpenRound, rest @ ..] => {
-            let (fields, behind) = fields(alloc, Purpose::Declare, scope, rest)?;
+            let (fields, behind) = fields_in_brackets(alloc, Purpose::Declare, scope, rest)?;
             let features = features(alloc, fields.as_slice())?;
             let names = names(alloc, fields.as_slice())?;
             Ok((record_pattern(label.copy()?, features), names, behind))

@@ -2,7 +2,7 @@
 
 ghost use Rattle.std.specs.Prelude.{◌≡◌, ◌+◌, length, IfOk};
 ghost use Rattle.oz_grammar.specs.Points.{is_sign, expected_sign, is_closer, is_statement_start, expected_after};
-ghost use Rattle.oz_grammar.specs.Reading.{is_end_of, is_at_statement, sign_at, close_at};
+ghost use Rattle.oz_grammar.specs.Reading.{is_end_of, is_at_statement, is_close_round, sign_at, close_at};
 ghost use Rattle.oz_phrases.specs.ReadAnswers.{IsReadAs};
 
 use crate::stop::{Stop, mismatch};
@@ -69,6 +69,16 @@ pub fn close(symbols: &[Symbol]) -> Result<&[Symbol], Stop>
     match symbols {
         [Symbol::CloseCurly, rest @ ..] => Ok(rest),
         _ => Err(mismatch(What::Close, symbols)),
+    }
+}
+
+/// Whether the bracket that closes fields stands here.
+pub fn is_close_round(symbols: &[Symbol]) -> bool
+    ensures { result ≡ is_close_round symbols.now }
+{
+    match symbols {
+        [Symbol::CloseRound, ..] => true,
+        _ => false,
     }
 }
 

@@ -6,3 +6,4 @@ pub mod Lists
 pub mod KernelCodes
 pub mod KernelExpansions
 pub mod WorkedRows
+pub mod KernelTexts

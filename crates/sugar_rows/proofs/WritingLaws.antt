@@ -8,13 +8,11 @@ use Rattle.kernel_syntax.specs.declared.stmt.Stmt.TheVariants as stmt
 use Rattle.kernel_syntax.specs.Scopes.{features_in}
 use Rattle.kernel_syntax.proofs.PreorderLemmas.{stmt_here}
 use Rattle.oz_grammar.specs.Table.{code_at}
-use Rattle.oz_grammar.specs.Reading.{set_second}
-use Rattle.oz_grammar.proofs.StatementsChecked.{set_here}
 use Rattle.kernel_syntax.specs.Sugar.{Value, Variable, Integer, Atom, Record, Apply, Proc, Fun, If, Case, Brackets, Values, no_values, value_and, ValueClauses, no_clauses, clause_and, Statement, Skip, Tell, Acts, Local, Thread, IfStatement, CaseStatement, Try, Finally, Statements, no_statements, statement_and, Clauses, no_cases, case_and, by_kind, new_of, new_in}
-use Rattle.sugar_rows.specs.Codes.{Code, Leaf, Codes, One, Then, code_rows, codes_rows, more_rows, codes_numbers, follow}
+use Rattle.sugar_rows.specs.Codes.{Code, Leaf, Codes, One, code_rows, codes_rows, more_rows, codes_numbers, follow}
 use Rattle.sugar_rows.specs.Codes as code
 use Rattle.sugar_rows.specs.Put.{Places, place, declare, slot_places, operation_row, action_row, held, under, record_code, finally_code, put, put_all, put_fields, put_clauses, put_statement, put_statements, put_others, put_cases, put_branch, expanded_rows}
-use Rattle.sugar_rows.specs.Writing.{add, next, behind, with_second, with_numbers, with_numbered, Numbered, held_place, new_rows, hold_rows, write_locals, write_record, write_one, write_two, one_or_more, with_cases, write_ends, write_finally, write, write_all, write_fields, write_clauses, write_statement, write_statements, write_others, write_cases, program_rows}
+use Rattle.sugar_rows.specs.Writing.{add, next, behind, set_second, with_second, with_numbers, with_numbered, Numbered, held_place, new_rows, hold_rows, write_locals, write_record, write_one, write_two, one_or_more, with_cases, write_ends, write_finally, write, write_all, write_fields, write_clauses, write_statement, write_statements, write_others, write_cases, program_rows}
 
 -- w writes what f gives for the number of the first row
 abbrev Writes : (List Stmt → List Stmt) → (ℕ → List Stmt) → Type 0
@@ -37,6 +35,10 @@ both w f h rows xs =
     h (rows ++ xs)
     ∙ ap (λ (n : ℕ). (rows ++ xs) ++ f n) (length-append rows xs)
     ∙ append_assoc rows xs (f (length rows + length xs))
+
+set_here : (pre post : List Stmt) (x y : Stmt) → slice_set (pre ++ x ∷ post) (length pre) y ≡ pre ++ y ∷ post
+set_here [] post x y = refl
+set_here (p ∷ pre) post x y = ap (λ (xs : List Stmt). p ∷ xs) (set_here pre post x y)
 
 one_law : (row : Stmt) (w : List Stmt → List Stmt) (f : ℕ → List Stmt) → Writes w f → (rows : List Stmt)
     → write_one row w rows ≡ rows ++ (set_second (code_at (length rows + 1 + length (f (length rows + 1)))) row ∷ f (length rows + 1))

@@ -6,7 +6,6 @@ use Rattle.kernel_syntax.specs.declared.stmt.Stmt.{Stmt}
 use Rattle.kernel_syntax.specs.declared.stmt.Stmt.TheVariants as stmt
 use Rattle.kernel_syntax.specs.Scopes.{features_in}
 use Rattle.oz_grammar.specs.Table.{code_at, pair_row}
-use Rattle.oz_grammar.specs.Reading.{set_second}
 use Rattle.kernel_syntax.specs.Sugar.{Value, Variable, Integer, Atom, Record, Apply, Proc, Fun, If, Case, Brackets, Values, no_values, value_and, ValueClauses, no_clauses, clause_and, Statement, Skip, Tell, Acts, Local, Thread, IfStatement, CaseStatement, Try, Finally, Statements, no_statements, statement_and, Clauses, no_cases, case_and, by_kind, new_of, new_in, part_and}
 use Rattle.sugar_rows.specs.Put.{Places, place, declare, slot_places, operation_row, action_row}
 
@@ -35,6 +34,13 @@ next rows = code_at (length rows)
 -- that of the row behind it
 abbrev pub behind : List Stmt → CodeId
 behind rows = code_at (length rows + 1)
+
+-- the number of a second body goes into this row
+abbrev pub set_second : CodeId → Stmt → Stmt
+set_second n (stmt.If subject chosen other) = stmt.If subject chosen n
+set_second n (stmt.Case subject pattern first chosen other) = stmt.Case subject pattern first chosen n
+set_second n (stmt.Try body first handler) = stmt.Try body first n
+set_second n row = row
 
 -- the row at this place gets a second body, whose row comes next
 abbrev pub with_second : ℕ → List Stmt → List Stmt

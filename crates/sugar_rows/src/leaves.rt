@@ -1,8 +1,8 @@
 //! Rows without bodies, and copies of what a tree holds.
 
-ghost use Rattle.std.specs.Prelude.{◌≡◌, [], ◌∷◌, ◌++◌, slice_index, take, map, IfOk};
+ghost use Rattle.std.specs.Prelude.{◌≡◌, [], ◌∷◌, slice_index, IfOk};
 ghost use Rattle.oz_grammar.specs.Table.{built_in_row};
-ghost use Rattle.sugar_rows.specs.Put.{place, slot_places, operation_row, action_row, placed_selector, field_place};
+ghost use Rattle.sugar_rows.specs.Put.{slot_places, operation_row, action_row, placed_selector, field_place};
 
 use kernel_syntax::sugar::{Action, Field, Operation};
 use kernel_syntax::{Bodies, BuiltIn, Features, Pattern, Positions, Selector, Slots, Stmt};

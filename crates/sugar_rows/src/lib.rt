@@ -7,8 +7,8 @@
 //! (proofs/WritingLaws.antt). A program of the kernel stands for itself (`kernel_stands_for_itself`). Worked examples hold of the definition
 //! (`expanded_examples`).
 //!
-//! Stands on: `kernel_syntax` (trees, programs), definitions of `oz_grammar` (the row of a built-in call, the numbers of rows) and of
-//! `surface_grammar` (what is read with sugar).
+//! Stands on: `kernel_syntax` (trees, programs), definitions of `oz_grammar` (programs of the kernel, the numbers of rows) and of
+//! `surface_grammar` (what is read with sugar), `oz_lexer` (that each text divides into tokens in one way).
 //!
 //! Tests alone show no promise of it.
 //!
@@ -23,5 +23,8 @@ mod rows;
 mod writer;
 
 pub use counts::{new_in, new_in_pair, new_of};
-pub use laws::{expanded_examples, kernel_stands_for_itself};
+pub use laws::{
+    expanded_examples, kernel_programs_are_one, kernel_stands_for_itself,
+    kernel_texts_have_one_of_both,
+};
 pub use rows::rows_of;

@@ -1,6 +1,6 @@
 //! The rows of what a tree stands for.
 
-ghost use Rattle.std.specs.Prelude.{◌≡◌, IfOk};
+ghost use Rattle.std.specs.Prelude.{IfOk};
 ghost use Rattle.kernel_syntax.specs.SugarView.{statements_in};
 ghost use Rattle.sugar_rows.specs.Put.{Expand};
 

@@ -2,9 +2,8 @@
 
 ghost use Rattle.std.specs.Prelude.{◌≡◌, ◌+◌, ◌<◌, ◌^◌, [], length, take, IfOk, OnOk};
 ghost use Rattle.kernel_syntax.specs.declared.stmt.Stmt.TheVariants as stmt;
-ghost use Rattle.oz_grammar.specs.Reading.{set_second};
 ghost use Rattle.sugar_rows.specs.Put.{place, declare};
-ghost use Rattle.sugar_rows.specs.Writing.{add, behind, with_second, with_numbers, state_of, written};
+ghost use Rattle.sugar_rows.specs.Writing.{add, behind, set_second, with_second, with_numbers, state_of, written};
 
 use crate::leaves::position_at;
 use kernel_syntax::{Bodies, Stmt};

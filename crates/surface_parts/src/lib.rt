@@ -19,7 +19,7 @@ mod trees;
 pub use formals::formal_wrong;
 pub use signs::{
     behind, expected_behind, goes_on, is_at_compound, is_at_statement, is_case, is_clause,
-    is_close, is_close_round, is_dot, is_end_of, is_if, is_integer, is_variable,
+    is_close, is_dot, is_end_of, is_if, is_integer, is_variable,
 };
 pub use trees::{
     Fields, act, add_field, apply_two, brackets, call_statement, call_value, case_statement,

@@ -1,7 +1,6 @@
 //! What begins a value, what begins a statement, and what closes a sequence.
 
 ghost use Rattle.std.specs.Prelude.{◌≡◌, drop};
-ghost use Rattle.oz_grammar.specs.Reading.{is_close_round};
 ghost use Rattle.surface_grammar.specs.Reading.{begins_compound, is_at_compound, is_at_statement, is_close, is_closer, is_end_of, expected_behind};
 ghost use Rattle.surface_parts.specs.Signs.{is_dot, is_clause, is_variable, is_integer, is_if, is_case, goes_on};
 
@@ -45,16 +44,6 @@ pub fn is_close(symbols: &[Symbol]) -> bool
 {
     match symbols {
         [Symbol::CloseCurly, ..] => true,
-        _ => false,
-    }
-}
-
-/// Whether the bracket that closes fields stands here.
-pub fn is_close_round(symbols: &[Symbol]) -> bool
-    ensures { result ≡ is_close_round symbols.now }
-{
-    match symbols {
-        [Symbol::CloseRound, ..] => true,
         _ => false,
     }
 }

@@ -15,10 +15,8 @@ ghost use Rattle.surface_parts.specs.Slots.{so_far};
 use super::Reader;
 use kernel_syntax::sugar::{Field, Value};
 use oz_grammar::{FaultKind, Symbol, What};
-use oz_phrases::{Stop, fault};
-use surface_parts::{
-    Fields, add_field, is_close_round, is_given, no_fields, place_feature, record_value,
-};
+use oz_phrases::{Stop, fault, is_close_round};
+use surface_parts::{Fields, add_field, is_given, no_fields, place_feature, record_value};
 use tree_node::{Feature, Integer, MOST_ITEMS, Text};
 
 /// What is wrong with one more field of this feature, where there is room for so many.

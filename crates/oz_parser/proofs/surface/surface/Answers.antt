@@ -2,9 +2,9 @@ use Rattle.std.proofs.Common.{◌≡◌, List, ℕ, length, Ok, sym, subst, stri
 use Rattle.kernel_syntax.specs.SugarView.{statements_in}
 use Rattle.kernel_syntax.specs.Surfaces.{surface_of}
 use Rattle.surface_grammar.specs.Reading.{program_at}
-use Rattle.surface_grammar.proofs.ReadLaws.{symbol_laws, fault_is}
+use Rattle.surface_grammar.proofs.ReadLaws.{symbol_laws}
 use Rattle.oz_parser.specs.ParseAnswers.{IsSurface, Stands, IsErrorAt}
-use Rattle.oz_parser.proofs.Parsing.{surface_reads, surface_fits, starts_told, refusal_stands, refusal_is}
+use Rattle.oz_parser.proofs.Parsing.{surface_refused, surface_reads, surface_fits, starts_told, refusal_stands, refusal_is}
 use Rattle.oz_parser.proofs.surface.surface.Goals as goal
 
 pub new-requires-clause-fits : goal.new-requires-clause-fits
@@ -15,7 +15,7 @@ new-requires-clause-fits c =
 pub error_of-requires-clause-stands : goal.error_of-requires-clause-stands
 error_of-requires-clause-stands c =
     subst (λ (starts : List ℕ). Stands c.in-Err.stop (length starts)) (sym c.as_slice.ensures.value)
-    (refusal_stands symbol_laws c.args.text.now c.args.symbols.now c.args.starts.items (program_at c.args.symbols.now) c.in-Err.stop c.requires.symbols (fault_is c.args.symbols.now) (search rules))
+    (refusal_stands symbol_laws c.args.text.now c.args.symbols.now c.args.starts.items c.in-Err.stop c.requires.symbols (surface_refused c.args.symbols.now c.in-Err.stop (search rules)))
 
 pub returns-in_ok-from_str-in-Ok : goal.returns-in_ok-from_str-in-Ok
 returns-in_ok-from_str-in-Ok c =
@@ -30,4 +30,4 @@ returns-in_ok-from_str-in-Ok c =
 pub returns-in-Err : goal.returns-in-Err
 returns-in-Err c =
     let at = subst (λ (starts : List ℕ). IsErrorAt c.args.text.now starts c.in-Err.stop c.error_of.result) c.as_slice.ensures.value c.error_of.ensures in
-    refusal_is symbol_laws c.args.text.now c.args.symbols.now c.args.starts.items (program_at c.args.symbols.now) c.in-Err.stop c.error_of.result c.requires.symbols (fault_is c.args.symbols.now) (search rules) at
+    refusal_is symbol_laws c.args.text.now c.args.symbols.now c.args.starts.items c.in-Err.stop c.error_of.result c.requires.symbols (surface_refused c.args.symbols.now c.in-Err.stop (search rules)) at
