@@ -18,7 +18,7 @@ pub const STEPS: u64 = 10_000;
 pub const MESSAGES: u64 = 4_000_000_000;
 
 /// Rows: a text, its sites, and its workers. Each run comes to rest.
-pub const QUIET: [(&str, u32, u32); 7] = [
+pub const QUIET: [(&str, u32, u32); 9] = [
     ("skip", 1, 1),
     ("skip", 64, 64),
     ("local X in {Browse X} end", 2, 2),
@@ -34,6 +34,8 @@ pub const QUIET: [(&str, u32, u32); 7] = [
         3,
     ),
     (ROUNDS, 3, 3),
+    (ROUNDS, 64, 64),
+    (VISITS, 64, 64),
 ];
 
 // The token of a cell goes to and fro between sites 2 and 3, whose workers sleep while it is away.
@@ -57,6 +59,28 @@ const ROUNDS: &str = "local Cell Add Zero One N A B in
   thread at 2 {Add N A} end
   thread at 3 {Add N B} end
   {Wait A} {Wait B}
+end";
+
+// Each of 64 sites is asked for a cell of its own, from the last to the first, when its worker has slept since the start: so each worker is
+// woken by a message, and wakes that of site 1 by its answer.
+const VISITS: &str = "local Visit Zero One Last in
+  Zero = 0  One = 1  Last = 64
+  proc {Visit Home}
+    local Ends in
+      Ends = Home =< Zero
+      if Ends then skip
+      else
+        local Cell Old New Next in
+          {NewCellAt Home Cell Home}
+          {Exchange Cell Old New}
+          {Wait Old}
+          Next = Home - One
+          {Visit Next}
+        end
+      end
+    end
+  end
+  {Visit Last}
 end";
 
 /// A thread that goes round and round.

@@ -4,7 +4,7 @@ use Rattle.tree_node.specs.declared.pick.Pick.{Pick}
 use Rattle.tree_node.specs.State.{State}
 use Rattle.kernel_syntax.specs.Program.{IsProgram}
 use Rattle.oz_sugar.specs.Texts.{TextsArePrograms}
-use Rattle.oz_model.specs.Laws.{CellsAreChains}
+use Rattle.oz_model.specs.Laws.{CellsAreChains, PortsAreChains}
 use Rattle.oz_model.specs.Run.{Run}
 use Rattle.oz_words.specs.declared.options.Action.{Action}
 use Rattle.oz_words.specs.declared.options.Action.TheVariants as action
@@ -23,7 +23,7 @@ use Rattle.world_simulation.specs.Distributed.{RunsTakeRows}
 use Rattle.world_simulation.specs.Messages.{AllMessagesAreFew}
 use Rattle.oz_runner.specs.Besides.{AreMessagesBounded, AreTokensServed, AreExchangesAsked, IsAccounted}
 use Rattle.oz_runner.specs.Cause.{Cause, HasProgram}
-use Rattle.oz_runner.specs.Cells.{AreExchangesChained}
+use Rattle.oz_runner.specs.Cells.{AreExchangesChained, AreSendsChained}
 use Rattle.oz_runner.specs.Headline.{Headline}
 use Rattle.oz_runner.specs.Messages.{most_messages}
 use Rattle.oz_runner.specs.OzCall.{OzCall, RunOutput}
@@ -79,6 +79,7 @@ pub record RunLaws : Type 0 where
   pub asked : HomesAreAsked
   pub programs : TextsArePrograms
   pub cells : CellsAreChains
+  pub ports : PortsAreChains
 
 -- no journal is of threads that stay
 none_moves : (j : List Turn) → j ≡ [] → ThreadsStayHome j
@@ -128,12 +129,16 @@ module _ (seen : OzCall) (made : RunOutput) (laws : RunLaws) (ran : Ran seen mad
 pub chained : CellsAreChains → (picks : List Pick) → AreExchangesChained picks
 chained cells picks = record { chain = λ p s c run. cells p picks s c run }
 
+-- and so are the sends to its ports
+pub sent : PortsAreChains → (picks : List Pick) → AreSendsChained picks
+sent ports picks = record { chain = λ p s q run. ports p picks s q run }
+
 accounted_by : (seen : OzCall) (made : RunOutput) → RunLaws → (made.journal ≡ []) ⊎ Ran seen made → IsAccounted seen made.journal made.schedule
-accounted_by seen made laws (inl none) = record { homes = none_moves made.journal none; few = inl none; served = inl none; asked = inl none; chains = chained laws.cells made.schedule }
-accounted_by seen made laws (inr ran) = record { homes = stays seen made laws ran; few = bounded seen made laws ran; served = served seen made laws ran; asked = asked seen made laws ran; chains = chained laws.cells made.schedule }
+accounted_by seen made laws (inl none) = record { homes = none_moves made.journal none; few = inl none; served = inl none; asked = inl none; chains = chained laws.cells made.schedule; sends = sent laws.ports made.schedule }
+accounted_by seen made laws (inr ran) = record { homes = stays seen made laws ran; few = bounded seen made laws ran; served = served seen made laws ran; asked = asked seen made laws ran; chains = chained laws.cells made.schedule; sends = sent laws.ports made.schedule }
 
 -- what a call promises of its status accounts for its journal
 pub accounted : (seen : OzCall) (made : RunOutput) (status : Status) → RunsTakeRows → ThreadsAlwaysStayHome → AllMessagesAreFew → RequestsAreServed → HomesAreAsked → TextsArePrograms
-    → CellsAreChains → Headline seen made status → IsAccounted seen made.journal made.schedule
-accounted seen made status rows homes few served asked programs cells whole =
-    accounted_by seen made (record { rows = rows; homes = homes; few = few; served = served; asked = asked; programs = programs; cells = cells }) (by_cause seen made whole.worked whole.has_line whole.cause)
+    → CellsAreChains → PortsAreChains → Headline seen made status → IsAccounted seen made.journal made.schedule
+accounted seen made status rows homes few served asked programs cells ports whole =
+    accounted_by seen made (record { rows = rows; homes = homes; few = few; served = served; asked = asked; programs = programs; cells = cells; ports = ports }) (by_cause seen made whole.worked whole.has_line whole.cause)

@@ -1,10 +1,12 @@
 -- How the cause of a status goes on to the status that stands before the writing, and to the one that is answered.
 use Rattle.std.proofs.Common.{◌≡◌, ◌∙◌, ◌⊎◌, ◌≤◌, sym, subst, List, ℕ, ◌++◌, ◌∷◌, [], length, ap, inl, inr, refl, Option, Some, None, Err}
+use Rattle.std.proofs.lemmas.List.{append-nil}
 use Rattle.std.specs.Io.KnownBytes.{Consumes}
 use Rattle.tree_node.specs.declared.pick.Pick.{Pick}
 use Rattle.site_message.specs.declared.turn.Turn.{Turn}
 use Rattle.oz_base.specs.Streams.{HandsInOnly}
 use Rattle.oz_model.specs.Output.{output, pieces_of}
+use Rattle.kernel_syntax.specs.declared.stmt.Stmt.{Stmt}
 use Rattle.run_file.specs.Saved.{SavedRun}
 use Rattle.oz_words.specs.declared.options.Action.{Action}
 use Rattle.oz_words.specs.declared.options.Action.TheVariants as action
@@ -13,7 +15,8 @@ use Rattle.oz_show.specs.Status.{end_line, HasLine, HasNumbers}
 use Rattle.oz_show.specs.declared.status.Status.{Status}
 use Rattle.oz_show.specs.declared.status.Status.TheVariants.{Quiescent, Usage, Refused, NotUtf8, TooLong, StepLimit, MessageLimit, ReadFault, WriteFault, Memory, Checked, Wrong, BadFile}
 use Rattle.oz_runner.specs.OzCall.{Stream, OzCall, RunOutput}
-use Rattle.oz_runner.specs.Cause.{Cause, HasFault, IsFileOfSource, IsGiven, HasProgram, IsTextOf, IsUntouched, HasNoFault, HasRead, NothingRan, ReadsSource, ReadsText, HasOptions, byte_limit, file_limit, text_limit}
+use Rattle.oz_runner.specs.Cause.{Cause, HasFault, IsFileOfSource, IsGiven, HasProgram, IsTextOf, IsUntouched, HasNoFault, HasRead, NothingRan, ReadsSource, ReadsText, HasOptions, byte_limit, file_limit, options_with, text_limit}
+use Rattle.oz_runner.specs.Checking.{IsFrontOf, IsMadeOf, IsWrongRun}
 use Rattle.oz_runner.specs.Due.{Due, File, IsDue, IsRestOfDue, IsRestOfOutput, Lines, due_bytes, lines_before}
 use Rattle.oz_runner.specs.Reading.{IsReadAs}
 use Rattle.oz_runner.specs.Saving.{IsPlain, IsReadyAs, IsRestOfWork, bytes_due, due_of}
@@ -21,26 +24,31 @@ use Rattle.oz_runner.specs.Ends.{lines_of}
 use Rattle.oz_runner.specs.declared.work.RunLines.{RunLines}
 use Rattle.oz_runner.specs.declared.work.RunLines.TheVariants as printed
 use Rattle.oz_runner.specs.declared.work.Work.{Work}
-use Rattle.oz_runner.specs.Run.{IsStatusOfRun}
+use Rattle.oz_runner.specs.Run.{IsNew, IsStatusOfRun}
 use Rattle.oz_runner.specs.Headline.{Headline}
 use Rattle.oz_runner.specs.Writing.{IsReportedAs, IsOutputTaken, after_fault}
 use Rattle.oz_runner.specs.Pieces.{IsWrittenByLine}
 
--- the end of a run
-pub ran_cause : (seen : OzCall) (made : RunOutput) (status : Status) (given : HasProgram seen) → IsStatusOfRun given.program given.options made status → Cause seen made status
-ran_cause seen made (Quiescent ended waiting) given came = (given, came)
-ran_cause seen made (StepLimit site) given came = (given, came)
-ran_cause seen made MessageLimit given came = (given, came)
-ran_cause seen made Memory given came = inr (given, came)
-ran_cause seen made Usage given came = absurd came
-ran_cause seen made (Refused fault) given came = absurd came
-ran_cause seen made (NotUtf8 at) given came = absurd came
-ran_cause seen made TooLong given came = absurd came
-ran_cause seen made ReadFault given came = absurd came
-ran_cause seen made WriteFault given came = absurd came
-ran_cause seen made (Checked entries picks) given came = absurd came
-ran_cause seen made (Wrong at) given came = absurd came
-ran_cause seen made (BadFile at) given came = absurd came
+-- no saved run is one of none
+no_file : {P : SavedRun → Type 0} (o : Option SavedRun) → o ≡ None → (file : SavedRun) → o ≡ Some file → P file
+no_file None is file other = cc
+no_file (Some f) is file other = cc
+
+-- the end of a new run
+pub ran_cause : (seen : OzCall) (made : RunOutput) (status : Status) (given : HasProgram seen) → given.file ≡ None → IsStatusOfRun given.program given.options made status → Cause seen made status
+ran_cause seen made (Quiescent ended waiting) given new came = (given, came)
+ran_cause seen made (StepLimit site) given new came = (given, came)
+ran_cause seen made MessageLimit given new came = (given, came)
+ran_cause seen made Memory given new came = inr (given, came, no_file given.file new)
+ran_cause seen made Usage given new came = absurd came
+ran_cause seen made (Refused fault) given new came = absurd came
+ran_cause seen made (NotUtf8 at) given new came = absurd came
+ran_cause seen made TooLong given new came = absurd came
+ran_cause seen made ReadFault given new came = absurd came
+ran_cause seen made WriteFault given new came = absurd came
+ran_cause seen made (Checked entries picks) given new came = absurd came
+ran_cause seen made (Wrong at) given new came = absurd came
+ran_cause seen made (BadFile at) given new came = absurd came
 
 -- the source gave bytes to its end, and so no more than may be
 read_within : (seen : OzCall) (words : Options) (a : Action) → words.action ≡ a → HasOptions seen words → ReadsSource a → (limit : ℕ) → ((n : ℕ) → n ≤ limit → n ≤ byte_limit a)
@@ -98,15 +106,53 @@ source_text action.Check source text reads gave = absurd reads
 pub file_text : (a : Action) (source : Stream) (file : SavedRun) → a ≡ action.Check → IsFileOfSource source file → IsTextOf a (Some file) source file.text
 file_text a source file is gave = subst (λ (b : Action). IsTextOf b (Some file) source file.text) (sym is) (gave, refl)
 
+-- ---- a front of a saved run
+
+-- the whole of it
+pub made_front : (p : List Stmt) (file : SavedRun) (j : List Turn) → IsMadeOf p file j → IsFrontOf p file j
+made_front p file j (w, made) = (file.entries, [], w, sym (append-nil file.entries), made)
+
+-- those before the one that is wrong
+wrong_front : (p : List Stmt) (file : SavedRun) (j : List Turn) (at : ℕ) → IsWrongRun p file j at → IsFrontOf p file j
+wrong_front p file j at (inl (front, behind, e, w, parts, count, made, wrong)) = (front, e ∷ behind, w, parts, made)
+wrong_front p file j at (inr (all, count, other)) = made_front p file j all
+
+-- there is one saved run
+pub of_file : (p : List Stmt) (o : Option SavedRun) (file : SavedRun) → o ≡ Some file → (j : List Turn) → IsFrontOf p file j → (g : SavedRun) → o ≡ Some g → IsFrontOf p g j
+of_file p None file is j front g other = cc
+of_file p (Some f) file is j front g other =
+    let one : f ≡ file = cc in
+    let two : f ≡ g = cc in
+    subst (λ (x : SavedRun). IsFrontOf p x j) (sym one ∙ two) front
+
+-- a new run has none
+pub new_without : (a : Action) (o : Option SavedRun) (source : Stream) (text : List ℕ) → IsTextOf a o source text → IsNew a → o ≡ None
+new_without a None source text gave new = refl
+new_without action.Check (Some file) source text gave new = absurd new
+new_without action.Run (Some file) source text gave new = absurd gave
+new_without action.Central (Some file) source text gave new = absurd gave
+new_without action.Save (Some file) source text gave new = absurd gave
+new_without (action.Gen size) (Some file) source text gave new = absurd gave
+
+pub same_action : (file : Option SavedRun) (words : Options) → (options_with file words).action ≡ words.action
+same_action None words = refl
+same_action (Some file) words = refl
+
+not_new : {seen : OzCall} {made : RunOutput} (given : HasProgram seen) → IsNew given.options.action → (file : SavedRun) → given.file ≡ Some file → IsFrontOf given.program file made.journal
+not_new {seen} given new =
+    no_file given.file
+    (new_without given.words.action given.file seen.source given.text given.is_text
+    (subst IsNew (ap (λ (o : Options). o.action) given.with_file ∙ same_action given.file given.words) new))
+
 -- work whose end line finds no memory
 memory_cause : (seen : OzCall) (made : RunOutput) (status : Status) → HasNumbers status → Cause seen made status → Cause seen made Memory
-memory_cause seen made (Quiescent ended waiting) has (given, (state, end, quiet)) = inr (given, (state, end.run))
-memory_cause seen made (StepLimit site) has (given, (state, end)) = inr (given, (state, end.run))
+memory_cause seen made (Quiescent ended waiting) has (given, (state, end, quiet)) = inr (given, (state, end.run), not_new given end.is_new)
+memory_cause seen made (StepLimit site) has (given, (state, end)) = inr (given, (state, end.run), not_new given end.is_new)
 memory_cause seen made MessageLimit has cause = absurd has
 memory_cause seen made (NotUtf8 at) has ((words, says, (file, text, is_text, holds)), nothing) = text_stops seen made words file text says is_text nothing
 memory_cause seen made (Refused fault) has ((words, says, (file, text, is_text, holds)), nothing) = text_stops seen made words file text says is_text nothing
-memory_cause seen made (Checked entries picks) has (given, file, is, ran, found) = inr (given, ran)
-memory_cause seen made (Wrong at) has (given, file, is, ran, found) = inr (given, ran)
+memory_cause seen made (Checked entries picks) has (given, file, is, ran, found) = inr (given, ran, of_file given.program given.file file is made.journal (made_front given.program file made.journal found.0))
+memory_cause seen made (Wrong at) has (given, file, is, ran, found) = inr (given, ran, of_file given.program given.file file is made.journal (wrong_front given.program file made.journal at found))
 memory_cause seen made (BadFile at) has ((words, says, is, (bytes, gave, first)), nothing) =
     inl (inr (read_within seen words action.Check is says tt file_limit (λ n less. less) bytes gave), nothing)
 memory_cause seen made Usage has cause = absurd has

@@ -34,14 +34,14 @@ use Rattle.oz_show.specs.declared.status.Status.{Status}
 use Rattle.oz_show.specs.declared.status.Status.TheVariants.{Quiescent, Usage, Refused, NotUtf8, TooLong, StepLimit, MessageLimit, ReadFault, WriteFault, Memory, Checked, Wrong, BadFile}
 use Rattle.oz_runner.specs.OzCall.{OzCall, RunOutput, run_output_of}
 use Rattle.oz_runner.specs.Cause.{Cause, HasOptions, HasProgram, IsFileOfSource, IsGiven, NothingRan, ReadsSource, file_limit, options_with}
-use Rattle.oz_runner.specs.Checking.{HasEndOf, IsFound, IsMadeOf, IsRight, IsWrongRun, status_after}
+use Rattle.oz_runner.specs.Checking.{HasEndOf, IsFound, IsFrontOf, IsMadeOf, IsRight, IsWrongRun, status_after}
 use Rattle.oz_runner.specs.Ends.{journal_of, lines_of, output_of_work, status_of}
 use Rattle.oz_runner.specs.FileRun.{IsRunOfFile}
 use Rattle.oz_runner.specs.Reading.{IsReadAs}
 use Rattle.oz_runner.specs.Run.{IsMadeByMachine, IsMadeBySites, IsNew, IsRun, OfSitesOrMachine}
 use Rattle.oz_runner.specs.declared.work.RunLines.TheVariants as printed
 use Rattle.oz_runner.specs.declared.work.Work.{Work}
-use Rattle.oz_runner.proofs.CauseLemmas.{file_text, unread_cause}
+use Rattle.oz_runner.proofs.CauseLemmas.{file_text, of_file, unread_cause}
 use Rattle.oz_runner.proofs.RunLemmas.{sites_after}
 
 -- ---- a run of the program
@@ -70,6 +70,7 @@ module _ (laws : FileLaws) (p : List Stmt) (program : IsProgram p) (file : Saved
     run = (laws.rows p file.sites bundle_limit j run.0 program fits.sites.0 fits.sites.1 (omega arith)).0 run.1;
     went = went;
     within = λ anew. absurd (subst IsNew is anew);
+    rounds = λ so. absurd (subst IsNew is so.0);
     picks = refl;
     lines = refl;
     known = λ i e there.
@@ -123,6 +124,12 @@ entries_made p l (t ∷ j) es w (front, e, old, parts, before, again) =
     let ih = entries_made p l j front old before in
     let whole : length es ≡ length front + 1 = ap length parts ∙ length-append front (e ∷ []) in
     omega (arith, ih, whole)
+
+-- memory was wanting behind a front of them
+pub found_front : (p : List Stmt) (file : SavedRun) (work : Work) (j : List Turn) → work.status ≡ Memory → work.printed ≡ printed.Sites j
+    → IsFrontOf p file j → IsFound p file (output_of_work work) work.status
+found_front p file work j status lines front =
+    subst (IsFound p file (output_of_work work)) (sym status) (subst (IsFrontOf p file) (sym (ap journal_of lines)) front)
 
 -- all were made again, and the end line is that of the run
 pub found_right : (p : List Stmt) (file : SavedRun) (made : RunOutput) (j : List Turn) (status : Status) (entries picks : ℕ) → made.journal ≡ j → IsMadeOf p file j
@@ -200,7 +207,7 @@ found_cause seen made words file program status says range is gave fits utf8 rea
     go : (st : Status) → IsFound program file made st → Cause seen made st
     go (Checked entries picks) h = (given, file, refl, ran, h)
     go (Wrong at) h = (given, file, refl, ran, h)
-    go Memory h = inr (given, ran)
+    go Memory h = inr (given, ran, of_file program (Some file) file refl made.journal h)
     go Usage h = absurd h
     go (Quiescent ended waiting) h = absurd h
     go (Refused fault) h = absurd h

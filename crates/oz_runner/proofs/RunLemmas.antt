@@ -20,6 +20,7 @@ use Rattle.world_model.specs.Simulated.{IsSimulated, last_ended, last_waiting}
 use Rattle.world_model.specs.World.{eqs}
 use Rattle.world_simulation.specs.Distributed.{DistributedRun}
 use Rattle.plain_run.specs.Progress.{HasReason}
+use Rattle.plain_run.specs.Rounds.{IsPlainRun}
 use Rattle.plain_run.specs.Simulated.{HasMachineRun}
 use Rattle.plain_run.specs.declared.out.RunOut.{RunOut}
 use Rattle.oz_words.specs.declared.options.Action.{Action}
@@ -64,6 +65,7 @@ pub record Leaves (p : List Stmt) (options : Options) (out : RunOut) : Type 0 wh
   pub reason : HasReason (limits_of options) out.journal out.reason
   pub went : HasNoEarlierEnd (limits_of options) out.journal
   pub within : AreWithin (limits_of options) out.journal
+  pub rounds : options.seed ≡ None → options.workers ≡ 0 → IsPlainRun p (limits_of options) out.journal
   pub ended : out.ended ≡ sum_to options.sites (last_ended out.journal)
   pub waiting : out.waiting ≡ sum_to options.sites (last_waiting out.journal)
 
@@ -105,6 +107,7 @@ module _ (p : List Stmt) (options : Options) (out : RunOut) (is : IsOverSites op
     run = left.rows;
     went = left.went;
     within = λ anew. left.within;
+    rounds = λ so. left.rounds so.2 so.1;
     picks = left.picks;
     lines = refl;
     known = λ i e there.

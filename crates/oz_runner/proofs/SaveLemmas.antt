@@ -26,16 +26,16 @@ use Rattle.oz_show.specs.Status.{HasLine, end_line}
 use Rattle.oz_show.specs.declared.status.Status.{Status}
 use Rattle.oz_show.specs.declared.status.Status.TheVariants.{Quiescent, Usage, Refused, NotUtf8, TooLong, StepLimit, MessageLimit, ReadFault, WriteFault, Memory, Checked, Wrong, BadFile}
 use Rattle.oz_runner.specs.OzCall.{OzCall, RunOutput, Stream, run_output_of}
-use Rattle.oz_runner.specs.Cause.{Cause, HasProgram, IsTextOf, NothingRan, options_with, text_limit}
+use Rattle.oz_runner.specs.Cause.{Cause, HasProgram, IsTextOf, NothingRan, text_limit}
 use Rattle.oz_runner.specs.Checking.{status_after, status_of_end}
 use Rattle.oz_runner.specs.Due.{File, IsDue, IsToBeSaved}
 use Rattle.oz_runner.specs.Ends.{journal_of, lines_of, output_of_work, status_of}
-use Rattle.oz_runner.specs.Run.{IsMadeByMachine, IsMadeBySites, IsRun, IsStatusOfRun, OfSitesOrMachine, limits_of}
+use Rattle.oz_runner.specs.Run.{IsMadeByMachine, IsMadeBySites, IsNew, IsRun, IsStatusOfRun, OfSitesOrMachine, limits_of}
 use Rattle.oz_runner.specs.Saving.{IsPlain, IsReady, IsReadyAs, IsSavedAs, IsWithFile}
 use Rattle.oz_runner.specs.declared.work.RunLines.{RunLines}
 use Rattle.oz_runner.specs.declared.work.RunLines.TheVariants as printed
 use Rattle.oz_runner.specs.declared.work.Work.{Work}
-use Rattle.oz_runner.proofs.CauseLemmas.{ran_cause, text_stops}
+use Rattle.oz_runner.proofs.CauseLemmas.{new_without, ran_cause, same_action, text_stops}
 
 -- ---- the end line has no newline in it
 
@@ -112,10 +112,6 @@ short_text a file source text is gave = go file (subst (λ (b : Action). IsTextO
     go None h = h.2
     go (Some f) h = absurd h
 
-same_action : (file : Option SavedRun) (words : Options) → (options_with file words).action ≡ words.action
-same_action None words = refl
-same_action (Some file) words = refl
-
 -- the words are `save`, and this is what the run of the program came to
 pub record CameTo (seen : OzCall) (given : HasProgram seen) (old : Work) : Type 0 where
   pub save : given.words.action ≡ action.Save
@@ -139,6 +135,9 @@ module _ (laws : SaveLaws) (seen : OzCall) (given : HasProgram seen) (old : Work
 
   its_action : given.options.action ≡ action.Save
   its_action = ap (λ (o : Options). o.action) given.with_file ∙ (same_action given.file given.words ∙ is.save)
+
+  no_saved : given.file ≡ None
+  no_saved = new_without given.words.action given.file seen.source given.text given.is_text (subst IsNew (sym is.save) tt)
 
   ran : (s : State) × IsRun given.program given.options made s
   ran = run_of_status given.program given.options made old.status is.came
@@ -187,10 +186,10 @@ module _ (laws : SaveLaws) (seen : OzCall) (given : HasProgram seen) (old : Work
   saved_ready new (inr (inr h)) = turnless_ready seen new h.plain h.journal
 
   saved_cause : (new : Work) → IsSavedAs given.text given.options old new → Cause seen (output_of_work new) new.status
-  saved_cause new (inl (same, none)) = subst (λ (w : Work). Cause seen (output_of_work w) w.status) (sym same) (ran_cause seen made old.status given is.came)
+  saved_cause new (inl (same, none)) = subst (λ (w : Work). Cause seen (output_of_work w) w.status) (sym same) (ran_cause seen made old.status given no_saved is.came)
   saved_cause new (inr (inl h)) =
       let same = same_run given.text given.options old new h in
-      subst (λ (z : RunOutput × Status). Cause seen z.0 z.1) (λ i. (sym same i, sym h.status i)) (ran_cause seen made old.status given is.came)
+      subst (λ (z : RunOutput × Status). Cause seen z.0 z.1) (λ i. (sym same i, sym h.status i)) (ran_cause seen made old.status given no_saved is.came)
   saved_cause new (inr (inr h)) =
       subst (λ (status : Status). Cause seen (output_of_work new) status) (sym h.status)
       (text_stops seen (output_of_work new) given.words given.file given.text given.says given.is_text (h.journal, h.schedule, h.lines))

@@ -9,7 +9,7 @@ use Rattle.oz_runner.specs.OzCall.{Stream, RunOutput, oz_call_of}
 use Rattle.oz_runner.specs.Words.{AreToldAs}
 use Rattle.oz_runner.specs.Headline.{Headline}
 use Rattle.oz_runner.specs.Besides.{AreMessagesBounded, AreTokensServed, AreExchangesAsked}
-use Rattle.oz_runner.specs.Cells.{AreExchangesChained}
+use Rattle.oz_runner.specs.Cells.{AreExchangesChained, AreSendsChained}
 use Rattle.oz_runner.specs.Exit.{IsExit}
 
 -- whatever the words, where none are told
@@ -20,6 +20,6 @@ untold told words none = subst (λ (t : Option (List (List ℕ))). AreToldAs t w
 pub call_ends : (told : Option (List (List ℕ))) (words : List (List ℕ)) (source sink : Stream) (made : RunOutput) (status : Status) (code : ExitCode)
     → AreToldAs told words → Headline (oz_call_of words source sink) made status → ThreadsStayHome made.journal
     → AreMessagesBounded (oz_call_of words source sink) made.journal made.schedule → AreTokensServed (oz_call_of words source sink) made.journal
-    → AreExchangesAsked (oz_call_of words source sink) made.journal → AreExchangesChained made.schedule → exit_status code ≡ status_number status → IsExit told source sink code
-call_ends told words source sink made status code are whole homes few served asked chains ends =
-    inl (words, are, made, status, whole, record { homes = homes; few = few; served = served; asked = asked; chains = chains }, ends)
+    → AreExchangesAsked (oz_call_of words source sink) made.journal → AreExchangesChained made.schedule → AreSendsChained made.schedule → exit_status code ≡ status_number status → IsExit told source sink code
+call_ends told words source sink made status code are whole homes few served asked chains sends ends =
+    inl (words, are, made, status, whole, record { homes = homes; few = few; served = served; asked = asked; chains = chains; sends = sends }, ends)

@@ -13,7 +13,7 @@ use Rattle.world_journals.specs.Places.{ThreadsStayHome}
 use Rattle.world_journals.specs.Requests.{AreRequestsServed}
 use Rattle.world_simulation.specs.Distributed.{DistributedRun}
 use Rattle.oz_runner.specs.Cause.{HasProgram}
-use Rattle.oz_runner.specs.Cells.{AreExchangesChained}
+use Rattle.oz_runner.specs.Cells.{AreExchangesChained, AreSendsChained}
 use Rattle.oz_runner.specs.Messages.{most_messages}
 use Rattle.oz_runner.specs.OzCall.{OzCall}
 
@@ -42,10 +42,11 @@ AreExchangesAsked seen j =
     × AreHomesAsked given.program j states)
 
 -- each own step of a thread is of the site where the thread was placed; the sites sent few messages, and their requests are served, those
--- to the homes of stationary cells too; and the exchanges of each cell are one chain
+-- to the homes of stationary cells too; the exchanges of each cell are one chain, and so are the sends to each port
 pub record IsAccounted (seen : OzCall) (j : List Turn) (picks : List Pick) : Type 0 where
   pub homes : ThreadsStayHome j
   pub few : AreMessagesBounded seen j picks
   pub served : AreTokensServed seen j
   pub asked : AreExchangesAsked seen j
   pub chains : AreExchangesChained picks
+  pub sends : AreSendsChained picks

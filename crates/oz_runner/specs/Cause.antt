@@ -17,7 +17,7 @@ use Rattle.oz_words.specs.declared.options.WordsError.TheVariants as words_error
 use Rattle.oz_show.specs.declared.status.Status.{Status}
 use Rattle.oz_show.specs.declared.status.Status.TheVariants.{Usage, Refused, NotUtf8, TooLong, ReadFault, WriteFault, Memory, Checked, Wrong, BadFile}
 use Rattle.oz_runner.specs.OzCall.{Stream, OzCall, RunOutput}
-use Rattle.oz_runner.specs.Checking.{IsRight, IsWrongRun}
+use Rattle.oz_runner.specs.Checking.{IsFrontOf, IsRight, IsWrongRun}
 use Rattle.oz_runner.specs.Run.{IsRun, IsStatusOfRun}
 
 -- the most bytes of a text
@@ -135,9 +135,15 @@ HasFileRun seen made Holds =
     (given : HasProgram seen) × (file : SavedRun) × (given.file ≡ Some file)
     × ((s : State) × IsRun given.program given.options made s) × Holds given.program file
 
+-- the run of that program found no memory; where it makes a saved run again, a front of the entries was made again
+abbrev pub HasStopped : OzCall → RunOutput → Type 0
+HasStopped seen made =
+    (given : HasProgram seen) × IsStatusOfRun given.program given.options made Memory
+    × ((file : SavedRun) → given.file ≡ Some file → IsFrontOf given.program file made.journal)
+
 -- The cause of each status. Want of memory is the one free answer: it comes before anything ran, or for the saved run of what ran, and
 -- then nothing is told, and the source was not read, or no more of it than may be; or it comes in a run, whose lines are those of the
--- schedule. A saved run that is wrong leaves the run of the entries before the place that is told. The last line is that of the other
+-- schedule, and which is a front of the saved run where one is made again. A saved run that is wrong leaves the run of the entries before the place that is told. The last line is that of the other
 -- ends of a run, `Quiescent`, `StepLimit` and `MessageLimit`
 abbrev pub Cause : OzCall → RunOutput → Status → Type 0
 Cause seen made Usage = ReadsWords seen.words (Err words_error.Usage) × IsUntouched seen.source × NothingRan made
@@ -148,7 +154,7 @@ Cause seen made (NotUtf8 at) =
     HasRunText seen (λ a text. ReadsSource a × (IsUtf8 text → ⊥) × IsValidUpTo text at) × NothingRan made
 Cause seen made (Refused fault) = HasRunText seen (λ a text. IsUtf8 text × FaultOf text fault) × NothingRan made
 Cause seen made WriteFault = HasFault seen.sink
-Cause seen made Memory = ((IsUntouched seen.source ⊎ HasRead seen HasNoFault (λ n most. n ≤ most)) × NothingRan made) ⊎ HasRunStatus seen made Memory
+Cause seen made Memory = ((IsUntouched seen.source ⊎ HasRead seen HasNoFault (λ n most. n ≤ most)) × NothingRan made) ⊎ HasStopped seen made
 Cause seen made (Checked entries picks) = HasFileRun seen made (λ p file. IsRight p file made entries picks)
 Cause seen made (Wrong at) = HasFileRun seen made (λ p file. IsWrongRun p file made.journal at)
 Cause seen made status = HasRunStatus seen made status

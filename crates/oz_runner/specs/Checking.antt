@@ -9,7 +9,7 @@ use Rattle.site_model.specs.Site.{Site}
 use Rattle.world_model.specs.Schedule.{sum_to}
 use Rattle.world_model.specs.Simulated.{last_ended, last_waiting}
 use Rattle.run_file.specs.Saved.{SavedRun}
-use Rattle.run_check.specs.Again.{AreMadeAgain, IsWrongAt}
+use Rattle.run_check.specs.Again.{AreMadeAgain, IsFrontMadeAgain, IsWrongAt}
 use Rattle.run_check.specs.World.{limits_of}
 use Rattle.oz_show.specs.Status.{end_line}
 use Rattle.oz_show.specs.declared.status.Status.{Status}
@@ -46,9 +46,13 @@ abbrev pub IsRight : List Stmt → SavedRun → RunOutput → ℕ → ℕ → Ty
 IsRight p file made entries picks =
     IsMadeOf p file made.journal × HasEndOf file made.journal × (entries ≡ length made.journal) × (picks ≡ length made.schedule)
 
--- what the check of a saved run of the program comes to: it is right, or wrong at this place; want of memory says nothing
+-- a front of the entries of the saved run was made again, and led to this journal
+abbrev pub IsFrontOf : List Stmt → SavedRun → List Turn → Type 0
+IsFrontOf p file j = IsFrontMadeAgain p (limits_of file) j file.entries
+
+-- what the check of a saved run of the program comes to: it is right, or wrong at this place; or memory was wanting behind a front of it
 abbrev pub IsFound : List Stmt → SavedRun → RunOutput → Status → Type 0
 IsFound p file made (Checked entries picks) = IsRight p file made entries picks
 IsFound p file made (Wrong at) = IsWrongRun p file made.journal at
-IsFound p file made Memory = Unit {0}
+IsFound p file made Memory = IsFrontOf p file made.journal
 IsFound p file made _ = ⊥

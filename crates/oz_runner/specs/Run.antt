@@ -1,5 +1,5 @@
 -- What the run of a program comes to.
-use Rattle.std.specs.Prelude.{◌≡◌, ◌≤◌, ℕ, List, [], length, IsTrue, Some, Contains}
+use Rattle.std.specs.Prelude.{◌≡◌, ◌≤◌, ℕ, List, [], length, IsTrue, None, Some, Contains}
 use Rattle.tree_node.specs.Classes.{HasOneEach}
 use Rattle.tree_node.specs.State.{State}
 use Rattle.tree_node.specs.Store.{Equation}
@@ -15,6 +15,7 @@ use Rattle.site_model.specs.Bundle.{bundle_limit}
 use Rattle.site_model.specs.Site.{Site}
 use Rattle.world_model.specs.Schedule.{schedule, lines_in}
 use Rattle.world_simulation.specs.Distributed.{DistributedRun}
+use Rattle.plain_run.specs.Rounds.{IsPlainRun}
 use Rattle.oz_words.specs.declared.options.Action.{Action}
 use Rattle.oz_words.specs.declared.options.Action.TheVariants as action
 use Rattle.oz_words.specs.declared.options.Options.{Options}
@@ -37,14 +38,19 @@ IsNew _ = Unit {0}
 abbrev pub limits_of : Options → Limits
 limits_of options = record { sites = options.sites; steps = options.steps; messages = options.messages }
 
+-- the sites take turns in rounds: the run is a new one, without workers, and no seed is said
+abbrev pub IsInRounds : Options → Type 0
+IsInRounds options = IsNew options.action × (options.workers ≡ 0) × (options.seed ≡ None)
+
 -- what the sites made: the journal is one of the program on that many, and leads to these states of them; no turn but the last
--- ended it, and in a new run no site made more own steps than the words say; the schedule has its picks, and the lines are its; what a
--- site knows is an equation of the machine's, which the owner of its variable has
+-- ended it, and in a new run no site made more own steps than the words say; in rounds its turns come in the plain order; the schedule has
+-- its picks, and the lines are its; what a site knows is an equation of the machine's, which the owner of its variable has
 pub record IsMadeBySites (p : List Stmt) (options : Options) (made : RunOutput) (s : State) : Type 0 where
   pub states : ℕ → Site
   pub run : DistributedRun p options.sites bundle_limit made.journal states
   pub went : HasNoEarlierEnd (limits_of options) made.journal
   pub within : IsNew options.action → AreWithin (limits_of options) made.journal
+  pub rounds : IsInRounds options → IsPlainRun p (limits_of options) made.journal
   pub picks : made.schedule ≡ schedule made.journal
   pub lines : made.lines ≡ lines_in made.journal
   pub known : (i : ℕ) (e : Equation) → Contains (states i).equations e → Contains s.equations e × Contains (states e.0.site).equations e

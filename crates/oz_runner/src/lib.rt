@@ -15,9 +15,9 @@
 //! the same; what one call had to save is right to another that reads it, unless reading, writing, the length or memory
 //! stands in the way (`saved_runs_are_right`). `oz` (`complete`): with words that are taken, a text that reads a program, and
 //! no fault, the run goes to its end or to a limit, or memory is wanting; a saved run is made again, whole or as far as it is
-//! right, or memory is wanting. `oz` (`homes`, `few`, `served`, `asked`, `chains`): each own step of a thread is of the site
-//! where the thread was placed, messages are few, requests for tokens are served, each exchange of a stationary cell for a
-//! thread of another site has one request and one answer, and the exchanges of each cell are one chain. `oz` (`pieces`): each
+//! right, or memory is wanting. `oz` (`homes`, `few`, `served`, `asked`, `chains`, `sends`): each own step of a thread is of the
+//! site where the thread was placed, messages are few, requests for tokens are served, each exchange of a stationary cell for a
+//! thread of another site has one request and one answer, and the exchanges of each cell are one chain, as the sends to each port are. `oz` (`pieces`): each
 //! call of a sink that tells its pieces is handed one line with its newline or a back of that, or the saved run or a back of
 //! it. `run_program`: the journal that workers, or the plain rounds, leave is a run of the program on so many sites, with its
 //! schedule and totals, ends by the reason that is told, and has no turn past the limit of own steps;

@@ -7,7 +7,7 @@ ghost use Rattle.oz_show.specs.Status.{end_line, HasLine};
 ghost use Rattle.oz_show.specs.declared.status.Status.TheVariants.{Memory};
 ghost use Rattle.world_journals.specs.Places.{ThreadsStayHome};
 ghost use Rattle.oz_runner.specs.Besides.{AreMessagesBounded, AreTokensServed, AreExchangesAsked};
-ghost use Rattle.oz_runner.specs.Cells.{AreExchangesChained};
+ghost use Rattle.oz_runner.specs.Cells.{AreExchangesChained, AreSendsChained};
 ghost use Rattle.oz_runner.specs.OzCall.{stream_of, oz_call_of, run_output_of};
 ghost use Rattle.oz_runner.specs.Complete.{IsGood, IsDone};
 ghost use Rattle.oz_runner.specs.Ends.{journal_of};
@@ -21,7 +21,7 @@ use crate::work::{RunLines, Work, do_work, work_without_run};
 use crate::write::write_due;
 use crate::{Report, Status};
 use oz_base::{Sink, Source};
-use oz_model::exchanges_are_a_chain;
+use oz_model::{exchanges_are_a_chain, sends_are_a_chain};
 use oz_show::{fixed_piece, last_line};
 use oz_sugar::texts_have_one_of_both;
 use run_file::bytes_save_or_fail;
@@ -62,6 +62,7 @@ pub fn oz<S: Source, K: Sink, G: Gate + Sync, R: Threads + Wait + Sync>(
         (oz_call_of (map string_bytes words.now) (stream_of S.left S.faults source.old source.new) (stream_of K.taken K.faults sink.old sink.new))
         result.journal }
     ensures chains { AreExchangesChained result.schedule }
+    ensures sends { AreSendsChained result.schedule }
     ensures pieces { IsWrittenByLine
         (oz_call_of (map string_bytes words.now) (stream_of S.left S.faults source.old source.new) (stream_of K.taken K.faults sink.old sink.new))
         result.journal result.schedule result.status (K.pieces sink.old) (K.pieces sink.new) }
@@ -74,6 +75,7 @@ pub fn oz<S: Source, K: Sink, G: Gate + Sync, R: Threads + Wait + Sync>(
     requests_are_served();
     homes_are_asked();
     exchanges_are_a_chain();
+    sends_are_a_chain();
     let work = do_work(rt, alloc, words, source, gate);
     report(alloc, sink, work)
 }

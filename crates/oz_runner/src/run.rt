@@ -1,12 +1,13 @@
 //! The run of a program: over its sites, or on the centralised machine.
 
-ghost use Rattle.std.specs.Prelude.{◌≡◌};
+ghost use Rattle.std.specs.Prelude.{◌≡◌, None};
 ghost use Rattle.oz_words.specs.Words.{InRange};
 ghost use Rattle.site_message.specs.Journal.{AreWithin};
 ghost use Rattle.site_message.specs.EarlierEnd.{HasNoEarlierEnd};
 ghost use Rattle.world_model.specs.Schedule.{schedule, sum_to};
 ghost use Rattle.world_model.specs.Simulated.{last_ended, last_waiting};
 ghost use Rattle.plain_run.specs.Progress.{HasReason};
+ghost use Rattle.plain_run.specs.Rounds.{IsPlainRun};
 ghost use Rattle.plain_run.specs.Simulated.{HasMachineRun};
 ghost use Rattle.oz_runner.specs.Run.{IsNew, IsStatusOfRun, limits_of};
 ghost use Rattle.oz_runner.specs.Checking.{status_after};
@@ -93,6 +94,7 @@ fn drive_program<G: Gate + Sync, R: Threads + Wait + Sync>(
     ensures reason { HasReason (limits_of options) result.journal result.reason }
     ensures went { HasNoEarlierEnd (limits_of options) result.journal }
     ensures within { AreWithin (limits_of options) result.journal }
+    ensures rounds { options.seed ≡ None → options.workers ≡ 0 → IsPlainRun program.now (limits_of options) result.journal }
     ensures ended { result.ended ≡ sum_to options.sites (last_ended result.journal) }
     ensures waiting { result.waiting ≡ sum_to options.sites (last_waiting result.journal) }
 {

@@ -1,3 +1,4 @@
+pub mod PassLemmas
 pub mod RoundLemmas
 pub mod RunLemmas
 pub mod ProgressLemmas

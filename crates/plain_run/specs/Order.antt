@@ -19,7 +19,11 @@ pub record CanBeMade (l : Limits) (w : WorldState) (c : Choice) : Type 0 where
 abbrev pub units_of : Limits → WorldState → Choice → ℕ
 units_of l w c = min (l.steps - (states_of w c.site).steps) c.units
 
--- the world has made this turn
+-- the world has made this turn, and where no thread was passed by, the threads of the site had their turns in its order
 pub record IsChosenTurn (l : Limits) (old new : WorldState) (c : Choice) : Type 0 where
   pub turn : IsWorldTurn old new c.site c.place (units_of l old c)
-  pub order : IsWorldTurnInOrder old new c.site
+  pub order : c.passed ≡ 0 → IsWorldTurnInOrder old new c.site
+
+-- the worlds are the same but for the orders of threads
+abbrev pub AreSameButOrders : WorldState → WorldState → Type 0
+AreSameButOrders old new = new ≡ record old { orders = new.orders }

@@ -6,17 +6,33 @@ ghost use Rattle.kernel_syntax.specs.Program.{IsProgram};
 ghost use Rattle.site_message.specs.Limits.{AreLimits};
 ghost use Rattle.site_message.specs.Journal.{end_of, AreWithin};
 ghost use Rattle.site_message.specs.EarlierEnd.{HasNoEarlierEnd};
-ghost use Rattle.world_core.specs.World.{WorldState};
+ghost use Rattle.world_core.specs.World.{WorldState, IsWorldTurn, IsWorldTurnInOrder};
 ghost use Rattle.plain_run.specs.Rounds.{Standing};
 ghost use Rattle.plain_run.specs.Progress.{HasReason, IsGoing, IsLimitedTurn, IsProgress, standing_of, turns_left};
-ghost use Rattle.plain_run.specs.Order.{CanBeMade, IsChosenTurn};
+ghost use Rattle.plain_run.specs.Order.{AreSameButOrders, CanBeMade, IsChosenTurn, units_of};
 
 use crate::order::{Choice, Order};
 use site_message::{Limits, Quantum, Reason};
 use std::alloc::AllocError;
 use world_core::{World, WorldRefusal};
 
-// The turn that was chosen, within the limit of own steps. It tells whether the turn took a message or made an own step.
+// So many threads of the site are passed by, one after another.
+#[tactic(auto, using(crate::proofs::PassLemmas::one_more))]
+fn pass_by(world: &mut World<'_>, site: u32, count: u32)
+    requires some { 1 ≤ site }
+    requires among { site ≤ world.old.sites }
+    ensures same { AreSameButOrders world.old world.new }
+    ensures none { count ≡ 0 → world.new ≡ world.old }
+{
+    if count == 0 {
+        return;
+    }
+    for _ in 0..count {
+        world.pass_by(site);
+    }
+}
+
+// The turn that was chosen, behind the threads that are passed by. It tells whether the turn took a message or made an own step.
 fn take_turn(world: &mut World<'_>, choice: Choice, limits: Limits) -> Result<bool, AllocError>
     requires limits { AreLimits limits }
     requires going { IsGoing limits world.old.program world.old }
@@ -24,6 +40,22 @@ fn take_turn(world: &mut World<'_>, choice: Choice, limits: Limits) -> Result<bo
     ensures err { OnErr result (world.new.journal ≡ world.old.journal) }
     ensures same { (world.new.program ≡ world.old.program) × (world.new.sites ≡ world.old.sites) }
     ensures chosen { IfOk result (λ _. IsChosenTurn limits world.old world.new choice) }
+    ensures made { IfOk result (λ _. IsLimitedTurn limits world.old.program world.old world.new choice.site) }
+    ensures progress { IfOk result (λ progress. IsProgress limits world.old world.new progress) }
+{
+    pass_by(world, choice.site, choice.passed);
+    make_turn(world, choice, limits)
+}
+
+// A turn of the site as it stands, within the limit of own steps. It tells whether the turn took a message or made an own step.
+fn make_turn(world: &mut World<'_>, choice: Choice, limits: Limits) -> Result<bool, AllocError>
+    requires limits { AreLimits limits }
+    requires going { IsGoing limits world.old.program world.old }
+    requires can { CanBeMade limits world.old choice }
+    ensures err { OnErr result (world.new.journal ≡ world.old.journal) }
+    ensures same { (world.new.program ≡ world.old.program) × (world.new.sites ≡ world.old.sites) }
+    ensures turn { IfOk result (λ _. IsWorldTurn world.old world.new choice.site choice.place (units_of limits world.old choice)
+        × IsWorldTurnInOrder world.old world.new choice.site) }
     ensures made { IfOk result (λ _. IsLimitedTurn limits world.old.program world.old world.new choice.site) }
     ensures progress { IfOk result (λ progress. IsProgress limits world.old world.new progress) }
 {

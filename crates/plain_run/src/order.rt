@@ -14,11 +14,12 @@ ghost use Rattle.plain_run.specs.Order.{CanBeMade, IsChosenTurn};
 use site_message::Limits;
 use world_core::World;
 
-/// The turn that comes next: its site, the place of the message that it takes, if it takes one, and the most units that it makes, 1
-/// to 64.
+/// The turn that comes next: its site, how many threads of it are passed by, the place of the message that it takes, if it takes one, and
+/// the most units that it makes, 1 to 64.
 #[derive(Clone, Copy, Debug, PartialEq, Eq)]
 pub(crate) struct Choice {
     pub site: u32,
+    pub passed: u32,
     pub place: Option<usize>,
     pub units: u32,
 }

@@ -25,6 +25,7 @@ pub(crate) fn next_in_rounds(world: &World<'_>, last: u32, limits: Limits) -> Ch
     ensures can { CanBeMade limits world.now result }
     ensures next { IsNextBusy world.now limits.sites last result.site }
     ensures lowest { MatchOption result.place (IsNoneFor world.now.travels result.site) (λ place. IsFirstFor world.now.travels result.site place) }
+    ensures passed { result.passed ≡ 0 }
     ensures units { result.units ≡ MOST_UNITS }
 {
     let Some(site) = next_busy(world, last, limits.sites) else {
@@ -33,6 +34,7 @@ pub(crate) fn next_in_rounds(world: &World<'_>, last: u32, limits: Limits) -> Ch
     };
     Choice {
         site,
+        passed: 0,
         place: world.next_for(site),
         units: MOST_UNITS,
     }

@@ -13,6 +13,7 @@ use crate::rounds::next_in_rounds;
 use rand_core::{Rng, SeedableRng};
 use rand_xoshiro::Xoshiro256PlusPlus;
 use site_message::Limits;
+use tree_node::MOST_SITES;
 use world_core::World;
 
 // So many turns are drawn between two of the rounds.
@@ -20,6 +21,12 @@ const BETWEEN_ROUNDS: u32 = 63;
 
 // So often a turn is drawn again, where it is of a site that is held back.
 const MOST_DRAWS: u32 = 8;
+
+// So many turns of a site pass threads by, before each of its threads has a turn again.
+const MOST_PASSING: u32 = 64;
+
+// So many threads are passed by at most, one after another.
+const MOST_PASSED: usize = 64;
 
 // A number below the bound.
 fn below(random: &mut Xoshiro256PlusPlus, bound: u64) -> u64
@@ -44,6 +51,14 @@ fn is_among(sites: u64, site: u32) -> bool
     (sites >> (site - 1)) & 1 == 1
 }
 
+// What is counted of a site: how many of its turns passed threads by since each of them had a turn, and in how many turns from now on none
+// is passed by, so that each has one.
+#[derive(Clone, Copy)]
+struct Passing {
+    passed: u32,
+    owed: usize,
+}
+
 /// The draws of a run. How long turns are at most is drawn once for all turns, so that runs differ in it.
 #[derive(Drop)]
 pub(crate) struct Draws {
@@ -52,6 +67,8 @@ pub(crate) struct Draws {
     longest: u64,
     // The sites that are held back for now, as bits: about half of them.
     held: u64,
+    // What is counted of each site, that of site 1 first.
+    passing: [Passing; MOST_SITES as usize],
     // The site of the last turn of the rounds, and how many are drawn before the next one.
     last: u32,
     left: u32,
@@ -63,11 +80,12 @@ impl Draws {
         ensures { result.last ≡ 0 }
     {
         let mut random = Xoshiro256PlusPlus::seed_from_u64(seed);
-        let longest = below_64(&mut random);
+        let longest = below_64(&mut random).min(below_64(&mut random));
         Draws {
             random,
             longest,
             held: 0,
+            passing: [Passing { passed: 0, owed: 0 }; MOST_SITES as usize],
             last: 0,
             left: BETWEEN_ROUNDS,
         }
@@ -102,6 +120,7 @@ impl Draws {
         if !world.idle(site) && (travels.is_empty() || !delivers) {
             return Choice {
                 site,
+                passed: 0,
                 place: None,
                 units,
             };
@@ -109,6 +128,7 @@ impl Draws {
         let place = below(&mut self.random, travels.len() as u64) as usize;
         Choice {
             site: travels[place].to,
+            passed: 0,
             place: Some(place),
             units,
         }
@@ -133,6 +153,33 @@ impl Draws {
     }
 }
 
+impl Draws {
+    // How many threads of the site are passed by: any number of those that can go on. Now and then none is, until each of them has had a turn.
+    fn draw_passed(&mut self, world: &World<'_>, site: u32) -> u32
+        requires some { 1 ≤ site }
+        requires among { site ≤ world.now.sites }
+        requires most { world.now.sites ≤ MOST_SITES }
+        ensures last { self.new.last ≡ self.old.last }
+    {
+        let runnable = world.runnable(site);
+        let at = site as usize - 1;
+        let Passing { passed, owed } = self.passing[at];
+        if owed > 0 {
+            self.passing[at].owed = owed - 1;
+            return 0;
+        }
+        if passed >= MOST_PASSING {
+            self.passing[at] = Passing {
+                passed: 0,
+                owed: runnable,
+            };
+            return 0;
+        }
+        self.passing[at].passed = passed + 1;
+        below(&mut self.random, runnable.clamp(1, MOST_PASSED) as u64) as u32
+    }
+}
+
 impl Order for Draws {
     ghost follows = { λ p l j now. ⊤ };
 
@@ -150,6 +197,8 @@ impl Order for Draws {
         if below(&mut self.random, 32) == 0 {
             self.held = self.random.next_u64();
         }
-        self.draw_free(world, limits)
+        let mut choice = self.draw_free(world, limits);
+        choice.passed = self.draw_passed(world, choice.site);
+        choice
     }
 }

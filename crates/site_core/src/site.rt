@@ -1,12 +1,13 @@
 //! One site of a program.
 
-ghost use Rattle.std.specs.Prelude.{◌≡◌, ◌≤◌, ◌+◌, ◌^◌, length, Err, IfOk, OnErr, OnOk, false, true};
+ghost use Rattle.std.specs.Prelude.{◌≡◌, ◌≤◌, ◌+◌, ◌-◌, ◌^◌, length, Err, IfOk, OnErr, OnOk, false, true};
 ghost use Rattle.std.specs.Borrow.{sem};
 ghost use Rattle.tree_node.specs.declared.limits.TheConstants.{MOST_SITES, MOST_UNITS};
 ghost use Rattle.site_model.specs.Site.{initial_site, is_idle};
 ghost use Rattle.site_units.specs.Core.{site_of};
 ghost use Rattle.site_core.specs.Seat.{LendsSeat};
-ghost use Rattle.thread_roster.specs.Threads.{IsOrderOf};
+ghost use Rattle.thread_roster.specs.Order.{rotated};
+ghost use Rattle.thread_roster.specs.Threads.{IsOrderOf, waiting_of};
 ghost use Rattle.site_core.specs.Site.{IsTurnInOrder, IsTurnMade, message_in};
 ghost use Rattle.site_core.specs.Replay.{IsReplayMade, IsStuckTurn};
 ghost use Rattle.site_units.specs.declared.replay.Replay.TheVariants.{NotRunnable};
@@ -123,11 +124,25 @@ impl<'a, O: Outside> Site<'a, O> {
         self.core.threads.is_idle()
     }
 
+    /// How many threads of the site can go on.
+    pub fn runnable(&self) -> usize
+        ensures { result ≡ length self.now.state.threads - waiting_of self.now.state.threads }
+    {
+        self.core.threads.len() - self.core.threads.waiting()
+    }
+
     /// Exactly those of its threads stand in its order that can go on, each once. It does nothing: its clause is what it tells.
     pub fn in_order(&self)
         ensures { IsOrderOf self.now.state.threads self.now.order }
     {
         self.core.threads.in_order();
+    }
+
+    /// The first thread in the order of those that can go on goes behind the others: it is passed by. Nothing else changes.
+    pub fn pass_by(&mut self)
+        ensures { self.new ≡ record self.old { order = rotated self.old.order } }
+    {
+        self.core.threads.rotate();
     }
 
     /// How many own steps the site has made.

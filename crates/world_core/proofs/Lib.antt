@@ -1,3 +1,4 @@
+pub mod PassLemmas
 pub mod PlaceLemmas
 pub mod QuietLemmas
 pub mod TravelLemmas

@@ -1,6 +1,6 @@
 //! The world.
 
-ghost use Rattle.std.specs.Prelude.{◌≡◌, ◌≢◌, ◌↔◌, ◌∷◌, ℕ, ◌+◌, ◌^◌, ◌<◌, ◌≤◌, [], length, map, true, false, None, Some, Ok, Err, IsTrue, IfOk, IfErr, OnOk, OnErr, MatchOption, slice_get};
+ghost use Rattle.std.specs.Prelude.{◌≡◌, ◌≢◌, ◌↔◌, ◌∷◌, ℕ, ◌+◌, ◌-◌, ◌^◌, ◌<◌, ◌≤◌, [], length, map, true, false, None, Some, Ok, Err, IsTrue, IfOk, IfErr, OnOk, OnErr, MatchOption, slice_get};
 ghost use Rattle.tree_node.specs.declared.limits.TheConstants.{MOST_SITES, MOST_UNITS};
 ghost use Rattle.site_message.specs.Journal.{is_quiet, sent_of, IsTravelling};
 ghost use Rattle.site_message.specs.declared.message.Sent.{Sent};
@@ -15,6 +15,8 @@ ghost use Rattle.world_core.specs.Laws.{HasRun, HasMachine, HasMachineAtRest, Ho
 ghost use Rattle.world_core.specs.Mail.{message_at, without_message};
 ghost use Rattle.world_core.specs.Travels.{travel_of, IsNoneFor, IsFirstFor, IsAt, IsPlaceOf, AreTravels, IsNothingFor, IsNotThere};
 ghost use Rattle.world_core.specs.World.{states_of, orders_of, IsWorldTurn, IsWorldTurnInOrder, KnowledgeStays, IsNewSite, IsTaken};
+ghost use Rattle.thread_roster.specs.Order.{rotated};
+ghost use Rattle.thread_roster.specs.Threads.{waiting_of};
 ghost use Rattle.site_core.specs.Start.{first_order};
 ghost use Rattle.site_core.specs.Site.{SiteState};
 ghost use Rattle.site_message.specs.declared.story.NoSeat.{NoSeat};
@@ -164,6 +166,17 @@ impl<'a> World<'a> {
         Ok(())
     }
 
+    /// The first thread in the order of the site goes behind the others that can go on there: it is passed by. No turn is made.
+    pub fn pass_by(&mut self, site: u32)
+        requires some { 1 ≤ site }
+        requires among { site ≤ self.old.sites }
+        ensures same { self.new ≡ record self.old { orders = self.new.orders } }
+        ensures passed { orders_of self.new site ≡ rotated (orders_of self.old site) }
+        ensures others { (i : ℕ) → i ≢ site → orders_of self.new i ≡ orders_of self.old i }
+    {
+        self.sites[site as usize - 1].pass_by();
+    }
+
     /// The messages that travel, in no order that means anything: `turn` takes the place of one of them.
     pub fn travelling(&self) -> &[Travel]
         requires { self.now.spent ≡ false }
@@ -209,6 +222,15 @@ impl<'a> World<'a> {
         ensures { result ≡ is_idle (states_of self.now site) }
     {
         self.sites[site as usize - 1].idle()
+    }
+
+    /// How many threads of the site can go on.
+    pub fn runnable(&self, site: u32) -> usize
+        requires some { 1 ≤ site }
+        requires among { site ≤ self.now.sites }
+        ensures { result ≡ length (states_of self.now site).threads - waiting_of (states_of self.now site).threads }
+    {
+        self.sites[site as usize - 1].runnable()
     }
 
     /// How many own steps the site has made.

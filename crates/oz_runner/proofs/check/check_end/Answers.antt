@@ -3,6 +3,7 @@ use Rattle.oz_show.specs.Status.{end_line}
 use Rattle.oz_runner.specs.Checking.{IsFound, IsMadeOf}
 use Rattle.oz_runner.specs.OzCall.{RunOutput, run_output_of}
 use Rattle.world_model.specs.Schedule.{lines_in}
+use Rattle.oz_runner.proofs.CauseLemmas.{made_front}
 use Rattle.oz_runner.proofs.FileLemmas.{file_after, found_other, found_right, other_end, same_end}
 use Rattle.oz_runner.proofs.check.check_end.Goals as goal
 use Rattle.oz_runner.proofs.check.check_end.Goals.{in-Ok-true, in-Ok-false, in-Err}
@@ -25,5 +26,5 @@ returns-clause-found c =
       | in-Ok-false w ↦
           subst (IsFound p file made) (sym w.status-is)
           (found_other p file made out.result.journal c.status_of.result _ refl of_file after (other_end c.is_end.result w.in-Ok-false.field-0 (file.end ≡ end_line c.status_of.result) w.in-Ok-false.is c.is_end.ensures w.in-Ok-false.field-0-test) (ap length c.entries.ensures))
-      | in-Err w ↦ subst (IsFound p file made) (sym w.status-is) tt
+      | in-Err w ↦ subst (IsFound p file made) (sym w.status-is) (made_front p file out.result.journal of_file)
     ]

@@ -1,4 +1,4 @@
-use Rattle.oz_runner.proofs.FileLemmas.{FileLaws, file_run, found_wrong}
+use Rattle.oz_runner.proofs.FileLemmas.{FileLaws, file_run, found_front, found_wrong}
 use Rattle.oz_runner.proofs.check.check_run.Goals as goal
 
 pub returns-in-All-clause-run : goal.returns-in-All-clause-run
@@ -20,6 +20,12 @@ returns-in-Wrong-clause-run c =
     let made = c.make_again-history in
     file_run laws c.args.program.now c.is_program.ensures c.args.file.now c.requires made.result.history made.ensures.run made.ensures.went c.again.result
     c.again.ensures.journal c.again.ensures.schedule
+
+pub returns-in-Memory-clause-found : goal.returns-in-Memory-clause-found
+returns-in-Memory-clause-found c =
+    let made = c.make_again-history in
+    found_front c.args.program.now c.args.file.now c.again-in-Memory.result made.result.history c.again-in-Memory.ensures.status c.again-in-Memory.ensures.journal
+    (made.ensures.memory c.in-Memory.is)
 
 pub returns-in-Memory-clause-run : goal.returns-in-Memory-clause-run
 returns-in-Memory-clause-run c =

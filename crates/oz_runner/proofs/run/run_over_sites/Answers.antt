@@ -15,6 +15,7 @@ returns-clause-came g c =
       reason = out.ensures.reason;
       went = out.ensures.went;
       within = out.ensures.within;
+      rounds = out.ensures.rounds;
       ended = out.ensures.ended;
       waiting = out.ensures.waiting;
     }))

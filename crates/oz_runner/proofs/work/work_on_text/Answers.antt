@@ -1,4 +1,4 @@
-use Rattle.std.proofs.Common.{ap, sym, subst, None}
+use Rattle.std.proofs.Common.{ap, refl, sym, subst, None}
 use Rattle.oz_runner.specs.Cause.{Cause}
 use Rattle.oz_runner.specs.Ends.{journal_of, output_of_work}
 use Rattle.oz_runner.specs.Saving.{IsPlain}
@@ -47,7 +47,7 @@ pub returns : goal.returns
 returns g c = record {
   cause = λ seen says gave. ran_cause seen _ _
       (program_given seen c.args.options c.args.bytes.now c.in-Ok.program says c.requires.range (source_text c.args.options.action seen.source c.args.bytes.now c.requires.source gave) c.in-Ok.ensures.0 c.in-Ok.ensures.1)
-      c.run-work.ensures.came;
+      refl c.run-work.ensures.came;
   due = λ seen says gave. other_ready seen c.args.options c.run-work.result says c.in_default.not-Save c.run-work.ensures.plain;
   line = came_line _ _ _ _ c.run-work.ensures.came;
 }

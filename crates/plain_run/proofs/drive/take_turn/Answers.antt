@@ -1,41 +1,26 @@
-use Rattle.std.proofs.Common.{◌≡◌, ◌∙◌, sym, subst, Bool, true, false}
-use Rattle.std.specs.Prelude.{is_some, nat_lt}
-use Rattle.plain_run.specs.Progress.{IsProgress}
-use Rattle.plain_run.proofs.ProgressLemmas.{as_chosen, made, took, went}
+use Rattle.plain_run.proofs.PassLemmas.{can_still, chosen_behind, going_still, journal_still, limited_behind, parts_still, progress_behind}
 use Rattle.plain_run.proofs.drive.take_turn.Goals as goal
 
-pub returns-then-is_some-clause-progress : goal.returns-then-is_some-clause-progress
-returns-then-is_some-clause-progress c =
-    let old = c.args.world.now in
-    let new = c.turn.new.self in
-    let choice = c.args.choice in
-    let turn = as_chosen c.args.limits old new choice c.min-units.result c.steps-steps.result c.from.result c.min-units.ensures c.steps-steps.ensures c.from.ensures c.in-Ok.ensures.turn in
-    let some : is_some choice.place ≡ true = sym c.is_some.ensures ∙ c.if-is_some.true in
-    subst (λ (b : Bool). IsProgress c.args.limits old new b) (sym c.if-is_some.true)
-    (took c.args.limits old.program old new choice c.requires.going c.requires.can turn c.in-Ok.ensures.run some)
+pub make_turn-requires-clause-going : goal.make_turn-requires-clause-going
+make_turn-requires-clause-going c = going_still c.args.limits c.args.world.now c.pass_by.new.world c.pass_by.ensures.same c.requires.going
 
-pub returns-else-is_some-clause-progress : goal.returns-else-is_some-clause-progress
-returns-else-is_some-clause-progress c =
-    let old = c.args.world.now in
-    let new = c.turn.new.self in
-    let choice = c.args.choice in
-    let turn = as_chosen c.args.limits old new choice c.min-units.result c.steps-steps.result c.from.result c.min-units.ensures c.steps-steps.ensures c.from.ensures c.in-Ok.ensures.turn in
-    let none : is_some choice.place ≡ false = sym c.is_some.ensures ∙ c.if-is_some.false in
-    subst (λ (b : Bool). IsProgress c.args.limits old new b) (λ i. nat_lt (sym c.steps-steps.ensures i) (sym c.steps.ensures i))
-    (went c.args.limits old.program old new choice c.requires.going c.requires.can turn c.in-Ok.ensures.run none)
+pub make_turn-requires-clause-can : goal.make_turn-requires-clause-can
+make_turn-requires-clause-can c = can_still c.args.limits c.args.world.now c.pass_by.new.world c.pass_by.ensures.same c.args.choice c.requires.can
 
-pub returns-then-is_some-clause-made : goal.returns-then-is_some-clause-made
-returns-then-is_some-clause-made c =
-    let old = c.args.world.now in
-    let new = c.turn.new.self in
-    let choice = c.args.choice in
-    let turn = as_chosen c.args.limits old new choice c.min-units.result c.steps-steps.result c.from.result c.min-units.ensures c.steps-steps.ensures c.from.ensures c.in-Ok.ensures.turn in
-    made c.args.limits old.program old new choice c.requires.going c.requires.can turn c.in-Ok.ensures.run c.turn.ensures.program.0 c.turn.ensures.program.1 c.in-Ok.ensures.live
+pub returns-clause-err : goal.returns-clause-err
+returns-clause-err c = journal_still c.args.limits c.args.world.now c.pass_by.new.world c.pass_by.ensures.same c.make_turn.result c.make_turn.new.world c.make_turn.ensures.err
 
-pub returns-else-is_some-clause-made : goal.returns-else-is_some-clause-made
-returns-else-is_some-clause-made c =
-    let old = c.args.world.now in
-    let new = c.turn.new.self in
-    let choice = c.args.choice in
-    let turn = as_chosen c.args.limits old new choice c.min-units.result c.steps-steps.result c.from.result c.min-units.ensures c.steps-steps.ensures c.from.ensures c.in-Ok.ensures.turn in
-    made c.args.limits old.program old new choice c.requires.going c.requires.can turn c.in-Ok.ensures.run c.turn.ensures.program.0 c.turn.ensures.program.1 c.in-Ok.ensures.live
+pub returns-clause-same : goal.returns-clause-same
+returns-clause-same c = parts_still c.args.limits c.args.world.now c.pass_by.new.world c.pass_by.ensures.same c.make_turn.new.world c.make_turn.ensures.same
+
+pub returns-clause-chosen : goal.returns-clause-chosen
+returns-clause-chosen c =
+    chosen_behind c.args.limits c.args.world.now c.pass_by.new.world c.pass_by.ensures.same c.make_turn.result c.make_turn.new.world c.args.choice c.pass_by.ensures.none c.make_turn.ensures.turn
+
+pub returns-clause-made : goal.returns-clause-made
+returns-clause-made c =
+    limited_behind c.args.limits c.args.world.now c.pass_by.new.world c.pass_by.ensures.same c.make_turn.result c.make_turn.new.world c.args.choice.site c.make_turn.ensures.made
+
+pub returns-clause-progress : goal.returns-clause-progress
+returns-clause-progress c =
+    progress_behind c.args.limits c.args.world.now c.pass_by.new.world c.pass_by.ensures.same c.make_turn.result c.make_turn.new.world c.make_turn.ensures.progress

@@ -10,4 +10,4 @@ returns-clause-follows c =
     let choice = c.next_in_rounds-choice in
     let travels = subst (AreTravels w.journal) c.travelling.ensures.value c.travelling.ensures.exact in
     let next = subst (λ (n : ℕ). IsNextBusy w c.args.limits.sites n choice.result.site) c.requires.recalls.0 choice.ensures.next in
-    λ new made h. plain_follows c.args.limits w new choice.result c.requires.going choice.ensures.units choice.ensures.can.some choice.ensures.can.among made travels choice.ensures.lowest next h
+    λ new made h. plain_follows c.args.limits w new choice.result c.requires.going choice.ensures.passed choice.ensures.units choice.ensures.can.some choice.ensures.can.among made travels choice.ensures.lowest next h
