@@ -262,6 +262,12 @@ again)
     need_program
     exec "$top/oracle/again" --program "$program" "$@"
     ;;
+picture)
+    shift
+    wants_python
+    need_program
+    exec "$top/pages/make" --program "$program" "$@"
+    ;;
 package | prove)
     [ $# -eq 1 ] || refuse "$2: $first takes no more words" "$first"
     [ "$called" = ./oz ] || refuse "$first wants the sources, and this is a package" version
@@ -329,7 +335,7 @@ while [ "$count" -gt 0 ]; do
         action=$word
         [ "$word" != gen ] || wants=gen
         ;;
-    races | again | package | prove | version | --version | program) refuse "$word: this word stands first" "$word" ;;
+    races | again | picture | package | prove | version | --version | program) refuse "$word: this word stands first" "$word" ;;
     *)
         if [ -d "$word" ]; then
             refuse "$word is a folder, and no text"

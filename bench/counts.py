@@ -30,6 +30,11 @@ def most_messages(counts, sites):
     return threads + 2 * variables * (sites - 1) + threads * variables + answered + 3 * (exchanges + cells * sites)
 
 
+def placed_cells(state):
+    """The stationary cells: those with a place behind their number."""
+    return [holder for holder in state.held if holder[0] == "cell" and len(holder) == 3]
+
+
 def run_thread(state, name):
     """Runs a thread until it waits or ends: how many steps it made, and which of them were exchanges, of mobile cells or of stationary ones, or
     sends."""
@@ -42,7 +47,7 @@ def run_thread(state, name):
         made += 1
         if noticed:
             take(state, name, noticed)
-            deeds.append("placed" if noticed[1] in state.placed else noticed[0])
+            deeds.append("placed" if noticed[0] == "exchange" and len(noticed[1]) == 3 else noticed[0])
     del state.threads[name]
     return made + 1, deeds
 
@@ -56,6 +61,7 @@ def counts(text):
             steps, more = run_thread(state, name)
             moved |= steps > 0
             deeds += more
-    mobile = sum(holder[0] == "cell" for holder in state.held) - len(state.placed)
+    placed = len(placed_cells(state))
+    mobile = sum(holder[0] == "cell" for holder in state.held) - placed
     exchanges, at_homes, sends = (deeds.count(deed) for deed in ("exchange", "placed", "send"))
-    return Counts(len(state.births), state.variables, mobile, exchanges, len(state.placed), at_homes, sends)
+    return Counts(len(state.births), state.variables, mobile, exchanges, placed, at_homes, sends)

@@ -71,8 +71,8 @@ class Printer:
     def print_call(self, callee, names):
         return "{" + " ".join(self.names[name] for name in (callee, *names)) + "}"
 
-    def print_thread(self, body):
-        return f"thread {self.statement(body)} end"
+    def print_thread(self, body, place):
+        return f"thread {f'at {place} ' if place else ''}{self.statement(body)} end"
 
     def print_try(self, body, name, handler):
         inside, caught = self.inside([name])

@@ -24,8 +24,8 @@ class Unreadable(Exception):
 
 
 def tokens(text):
-    """The tokens as kinds with their texts, an end behind them, and the place of each."""
-    found, places, at = [], [], 0
+    """The tokens as kinds with their texts, an end behind them, the place of each, and the one behind it."""
+    found, places, ends, at = [], [], [], 0
     while at < len(text):
         if text.startswith("/*", at):
             at = after_comment(text, at)
@@ -40,7 +40,8 @@ def tokens(text):
             found.append(token(match.lastgroup, match.group(match.lastgroup)))
             places.append(at)
             at = match.end()
-    return found + [("end", "")], places + [len(text)]
+            ends.append(at)
+    return found + [("end", "")], places + [len(text)], ends
 
 
 def token(kind, said):
@@ -63,12 +64,21 @@ def after_comment(text, at):
     raise Unreadable("a comment is open", at)
 
 
+class Name(str):
+    """A name that stands in a text, with how many characters stand before it. Names that sugar makes have no place."""
+
+    def __new__(cls, name, place):
+        made = super().__new__(cls, name)
+        made.place = place
+        return made
+
+
 class Reader:
     """Reads a text. `declared` has the names that are declared around the place, each with its name in the program, where no name hides
     another; `statements` is where each statement begins."""
 
     def __init__(self, text):
-        (self.tokens, self.places), self.at, self.statements = tokens(text), 0, []
+        (self.tokens, self.places, self.ends), self.at, self.statements = tokens(text), 0, []
         self.expansion, self.hiding, self.made = Expansion(), 0, []
 
     def fault(self, wanted):
@@ -81,7 +91,7 @@ class Reader:
         self.at += 1
         if kind == "end" or (kinds and kind not in kinds):
             raise self.fault(" or ".join(kinds or ("a statement",)) + " is missing")
-        return kind, said
+        return kind, Name(said, self.places[self.at - 1]) if kind == "variable" else said
 
     def stands(self, *words):
         """Whether one of these words or signs comes next."""
@@ -107,7 +117,7 @@ class Reader:
         name = self.next("variable")[1]
         if name not in declared:
             raise self.fault(f"{name} is undeclared")
-        return declared[name]
+        return Name(declared[name], name.place)
 
     def names(self, closing):
         """Takes the variables up to this sign or word."""
@@ -121,7 +131,7 @@ class Reader:
         inside, made = dict(declared), []
         for name in names:
             self.hiding += 1
-            inside[name] = f"{name}'{self.hiding}" if name in inside else name
+            inside[name] = Name(f"{name}'{self.hiding}", name.place) if name in inside else name
             made.append(inside[name])
         return inside, tuple(made)
 
@@ -129,10 +139,17 @@ class Reader:
 
     def sequence(self, declared, *closings):
         """Statements up to one of these words, which stays, or up to the end of the text where none is given."""
-        statements = [self.statement(declared)]
+        start, statements = self.places[self.at], [self.statement(declared)]
         while not (self.stands(*closings) if closings else self.tokens[self.at][0] == "end"):
             statements.append(self.statement(declared))
-        return sequence(*statements)
+        if len(statements) > 1:
+            return self.placed(sequence(*statements), start)
+        return statements[0]
+
+    def placed(self, statement, start):
+        """A statement, which stands in the text from this place on up to the token read last."""
+        self.made.append((statement, start, self.ends[self.at - 1]))
+        return statement
 
     def body(self, declared, closing):
         """Statements up to this word, which is taken."""
@@ -143,9 +160,7 @@ class Reader:
     def statement(self, declared):
         start = self.places[self.at]
         self.statements.append(start)
-        made = self.statement_alone(declared)
-        self.made.append((made, start, self.places[self.at]))
-        return made
+        return self.placed(self.statement_alone(declared), start)
 
     def statement_alone(self, declared):
         kind, said = self.next("variable", "word", "sign")
@@ -160,7 +175,7 @@ class Reader:
         if kind != "variable" or said not in declared:
             raise self.fault(f"{said} is undeclared" if kind == "variable" else "no statement begins so")
         self.expect("=")
-        return self.expansion.told(declared[said], self.value(declared))
+        return self.expansion.told(Name(declared[said], said.place), self.value(declared))
 
     def called(self, declared, results):
         """What is called, whether it is built in, and its arguments, of which so many as results are left out."""
@@ -174,7 +189,7 @@ class Reader:
             raise self.fault(f"{name} is undeclared")
         while not self.takes("}"):
             values.append(self.value(declared))
-        return declared[name], False, values
+        return Name(declared[name], name.place), False, values
 
     def read_skip(self, declared):
         return sequence()
@@ -194,9 +209,8 @@ class Reader:
         return self.expansion.matched(subject, clauses, self.body(declared, "end"))
 
     def read_thread(self, declared):
-        if self.takes("at"):
-            self.next("integer")
-        return thread(self.body(declared, "end"))
+        place = self.next("integer")[1] if self.takes("at") else None
+        return thread(self.body(declared, "end"), place)
 
     def read_try(self, declared):
         body = self.sequence(declared, "catch", "finally")
@@ -229,7 +243,7 @@ class Reader:
     def value(self, declared):
         start = self.places[self.at]
         value = self.value_alone(declared)
-        self.expansion.places.setdefault(id(value), (value, start, self.places[self.at]))
+        self.expansion.places.setdefault(id(value), (value, start, self.ends[self.at - 1]))
         return value
 
     def value_alone(self, declared):
@@ -270,7 +284,7 @@ class Reader:
             kind, said = self.next("variable", "atom", "integer")
             if kind == "variable" and said not in declared:
                 raise self.fault(f"{said} is undeclared")
-            value = "selection", value, (kind, declared[said] if kind == "variable" else said)
+            value = "selection", value, (kind, Name(declared[said], said.place) if kind == "variable" else said)
         return value
 
     def first_of_primary(self, declared):

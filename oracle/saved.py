@@ -27,8 +27,6 @@ class Trace:
 
     def add(self, state, name, item, line=None):
         """The thread of this name has made the step of an item."""
-        if item[0] == "run" and item[1].kind == "sequence" and len(item[1].parts) == 1:
-            return  # it is its statement, and takes no step of its own
         self.units.append((self.numbers[name], line))
         born = state.births[name]
         if born > self.births[name]:

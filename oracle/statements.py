@@ -36,6 +36,9 @@ def free_in(value):
 
 
 def sequence(*statements):
+    """A sequence of one statement is that statement."""
+    if len(statements) == 1:
+        return statements[0]
     return Statement("sequence", statements, frozenset().union(*(statement.free for statement in statements)))
 
 
@@ -64,8 +67,9 @@ def built_in(name, names):
     return Statement(name, names, frozenset(names))
 
 
-def thread(body):
-    return Statement("thread", (body,), body.free)
+def thread(body, place=None):
+    """A thread, and at which place it is to run, counted round the sites, where one is given."""
+    return Statement("thread", (body, place), body.free)
 
 
 def caught(body, name, handler):

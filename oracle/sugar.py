@@ -94,6 +94,5 @@ class Expansion:
     def finished(self, body, last):
         """`try body finally last end`."""
         name, exception = self.new(), self.new()
-        ending = call(name, ())
-        tried = caught(body, exception, sequence(ending, raising(exception)))
-        return local((name,), sequence(tell(name, ("procedure", (), last)), tried, ending))
+        tried = caught(body, exception, sequence(call(name, ()), raising(exception)))
+        return local((name,), sequence(tell(name, ("procedure", (), last)), tried, call(name, ())))

@@ -12,7 +12,7 @@ _oz() {
     case $word in
     -*) COMPREPLY=($(compgen -W '--sites --workers --seed --steps --messages --hints --help --version' -- "$word")) ;;
     *)
-        [ "$COMP_CWORD" -ne 1 ] || COMPREPLY=($(compgen -W 'run central save check gen races again help version' -- "$word"))
+        [ "$COMP_CWORD" -ne 1 ] || COMPREPLY=($(compgen -W 'run central save check gen races again picture help version' -- "$word"))
         compopt -o filenames 2>/dev/null
         local file
         while IFS= read -r file; do

@@ -12,5 +12,5 @@ _arguments \
     '1:word or text:->first' \
     '*:text:_files -g "*.(oz|run)"'
 if [[ $state == first ]]; then
-    _alternative 'words:word:(run central save check gen races again help version)' 'files:text:_files -g "*.(oz|run)"'
+    _alternative 'words:word:(run central save check gen races again picture help version)' 'files:text:_files -g "*.(oz|run)"'
 fi
