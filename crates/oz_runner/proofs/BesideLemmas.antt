@@ -68,7 +68,7 @@ by_cause seen made (Wrong at) has (given, file, is, (s, run), found) = of_run se
 by_cause seen made MessageLimit has (given, (s, end)) = of_run seen made given s end.run
 by_cause seen made WriteFault has cause = absurd has
 by_cause seen made Memory has (inl early) = inl early.1.0
-by_cause seen made Memory has (inr (given, (s, run))) = of_run seen made given s run
+by_cause seen made Memory has (inr (given, (s, run), front)) = of_run seen made given s run
 
 -- the laws over all runs
 pub record RunLaws : Type 0 where

@@ -30,16 +30,16 @@ use Rattle.oz_runner.specs.Writing.{IsReportedAs, IsOutputTaken, after_fault}
 use Rattle.oz_runner.specs.Pieces.{IsWrittenByLine}
 
 -- no saved run is one of none
-no_file : {P : SavedRun → Type 0} (o : Option SavedRun) → o ≡ None → (file : SavedRun) → o ≡ Some file → P file
-no_file None is file other = cc
-no_file (Some f) is file other = cc
+no_file : (P : SavedRun → Type 0) (o : Option SavedRun) → o ≡ None → (file : SavedRun) → o ≡ Some file → P file
+no_file P None is file other = cc
+no_file P (Some f) is file other = cc
 
 -- the end of a new run
 pub ran_cause : (seen : OzCall) (made : RunOutput) (status : Status) (given : HasProgram seen) → given.file ≡ None → IsStatusOfRun given.program given.options made status → Cause seen made status
 ran_cause seen made (Quiescent ended waiting) given new came = (given, came)
 ran_cause seen made (StepLimit site) given new came = (given, came)
 ran_cause seen made MessageLimit given new came = (given, came)
-ran_cause seen made Memory given new came = inr (given, came, no_file given.file new)
+ran_cause seen made Memory given new came = inr (given, came, no_file (λ (file : SavedRun). IsFrontOf given.program file made.journal) given.file new)
 ran_cause seen made Usage given new came = absurd came
 ran_cause seen made (Refused fault) given new came = absurd came
 ran_cause seen made (NotUtf8 at) given new came = absurd came
@@ -138,16 +138,16 @@ pub same_action : (file : Option SavedRun) (words : Options) → (options_with f
 same_action None words = refl
 same_action (Some file) words = refl
 
-not_new : {seen : OzCall} {made : RunOutput} (given : HasProgram seen) → IsNew given.options.action → (file : SavedRun) → given.file ≡ Some file → IsFrontOf given.program file made.journal
-not_new {seen} given new =
-    no_file given.file
+not_new : (seen : OzCall) (made : RunOutput) (given : HasProgram seen) → IsNew given.options.action → (file : SavedRun) → given.file ≡ Some file → IsFrontOf given.program file made.journal
+not_new seen made given new =
+    no_file (λ (file : SavedRun). IsFrontOf given.program file made.journal) given.file
     (new_without given.words.action given.file seen.source given.text given.is_text
     (subst IsNew (ap (λ (o : Options). o.action) given.with_file ∙ same_action given.file given.words) new))
 
 -- work whose end line finds no memory
 memory_cause : (seen : OzCall) (made : RunOutput) (status : Status) → HasNumbers status → Cause seen made status → Cause seen made Memory
-memory_cause seen made (Quiescent ended waiting) has (given, (state, end, quiet)) = inr (given, (state, end.run), not_new given end.is_new)
-memory_cause seen made (StepLimit site) has (given, (state, end)) = inr (given, (state, end.run), not_new given end.is_new)
+memory_cause seen made (Quiescent ended waiting) has (given, (state, end, quiet)) = inr (given, (state, end.run), not_new seen made given end.is_new)
+memory_cause seen made (StepLimit site) has (given, (state, end)) = inr (given, (state, end.run), not_new seen made given end.is_new)
 memory_cause seen made MessageLimit has cause = absurd has
 memory_cause seen made (NotUtf8 at) has ((words, says, (file, text, is_text, holds)), nothing) = text_stops seen made words file text says is_text nothing
 memory_cause seen made (Refused fault) has ((words, says, (file, text, is_text, holds)), nothing) = text_stops seen made words file text says is_text nothing
